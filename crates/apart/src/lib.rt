@@ -1,0 +1,1 @@
+// No code: two processors whose fields are apart, and laws of runs, in specs and proofs.

@@ -1,0 +1,4 @@
+pub mod Laws
+pub mod Fits
+pub mod Match
+pub mod Wrong

@@ -1,0 +1,1 @@
+// No code: the table "Proved of the rules" and the number of parcels held, in proofs.
