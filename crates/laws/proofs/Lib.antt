@@ -2,3 +2,4 @@ pub mod Laws
 pub mod Fits
 pub mod Match
 pub mod Wrong
+pub mod Kept
