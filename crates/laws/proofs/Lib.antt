@@ -3,3 +3,4 @@ pub mod Fits
 pub mod Match
 pub mod Wrong
 pub mod Kept
+pub mod Calls

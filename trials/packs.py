@@ -1,0 +1,52 @@
+"""What `run` and `store` share: the independent programs, and packs of sheets.
+
+A sheet is a pair, its name and its bytes. A pack holds, for each sheet, a line
+`@ NAME BYTES` and then so many bytes.
+"""
+
+import os
+import subprocess
+
+HERE = os.path.dirname(os.path.abspath(__file__))
+ROOT = os.path.dirname(HERE)
+BUILT = os.environ.get("CARGO_TARGET_DIR") or os.path.join(ROOT, "target", "peer")
+
+
+def build():
+    """Makes the independent programs."""
+    subprocess.run([os.path.join(HERE, "build")], check=True)
+
+
+def program(name):
+    return os.path.join(BUILT, "release", name)
+
+
+def output(command, text=b""):
+    return subprocess.run(command, input=text, stdout=subprocess.PIPE, check=True).stdout
+
+
+def made(kind, first, last):
+    """The generator's sheets of a kind, from seed `first` to seed `last`."""
+    return unpack(output([program("generate"), kind, str(first), str(last)]))
+
+
+def unpack(pack):
+    sheets, at = [], 0
+    while at < len(pack):
+        line = pack.index(b"\n", at)
+        _, name, length = pack[at:line].split()
+        at = line + 1 + int(length)
+        sheets.append((name.decode(), pack[line + 1 : at]))
+    return sheets
+
+
+def packed(sheets):
+    return b"".join(b"@ %s %d\n%s" % (name.encode(), len(text), text) for name, text in sheets)
+
+
+def answers(sheets):
+    """The independent program's answers, in the order of the sheets."""
+    parts = output([program("batch")], packed(sheets)).split(b"@ ")[1:]
+    found = [part.split(b"\n", 1) for part in parts]
+    assert [name.decode() for name, _ in found] == [name for name, _ in sheets]
+    return [answer for _, answer in found]

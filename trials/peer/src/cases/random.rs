@@ -1,0 +1,379 @@
+//! Programs of drawn instructions that pass on to one another by exchanges.
+//!
+//! Package 0 starts. In most sheets its program fills V, B, T and VM; the next
+//! packages run drawn instructions, in either mode, under fields of every
+//! shape; the last one mostly writes the hidden registers to memory. XA joins
+//! them in a row, so any cause of an exchange goes on to the next program.
+
+use super::build::{Draft, Package, Program, MONITOR};
+use super::draw::Draw;
+use super::parts::{aim, data_field, dump, fill, stride, WIDE};
+use crate::codes::{digits, Code, Mode, CODES};
+
+const DATA: u32 = 0x400;
+const DATA_WORDS: u32 = 200;
+/// Words of code that each program has room for, and their place.
+const ROOM: u32 = 0x60;
+const CODE: u32 = 0x100;
+/// A block of the field's measure holds 32 words, 128 parcels.
+const BLOCK: u32 = 32;
+
+pub fn sheet(seed: u64) -> Vec<u8> {
+    let mut case = Case {
+        draw: Draw::new(0xDA7A, seed),
+        draft: Draft::default(),
+        slots: Vec::new(),
+    };
+    case.fill_in();
+    case.draft.text()
+}
+
+struct Case {
+    draw: Draw,
+    draft: Draft,
+    /// The package numbers of the programs in a row.
+    slots: Vec<u32>,
+}
+
+/// A conditional branch whose target is still to be found: its place among the
+/// parcels and the instructions to be skipped.
+struct Skip {
+    parcel: usize,
+    gh: u16,
+    after: usize,
+}
+
+impl Case {
+    fn fill_in(&mut self) {
+        let programs = self.draw.from(1, 5) as u32;
+        self.slots = (0..programs).collect();
+        if programs > 1 && self.draw.often(20) {
+            self.slots[programs as usize - 1] = self.draw.pick(&[7, 15, 128, 200, 254, 255]);
+        }
+        let filled = self.draw.often(85);
+        let dumped = self.draw.often(75);
+        for number in 0..programs {
+            match number {
+                0 if filled && programs > 1 => self.filler(),
+                n if dumped && n + 1 == programs && n > 0 => self.dumper(n),
+                n => self.worker(n, filled && programs == 1),
+            }
+        }
+        self.draft.data(DATA, DATA_WORDS, &mut self.draw);
+        self.draft.steps = self.budget();
+    }
+
+    fn budget(&mut self) -> u64 {
+        match self.draw.below(100) {
+            0..=9 => self.draw.below(30),
+            10..=84 => self.draw.from(60, 400),
+            85..=94 => self.draw.from(400, 4_000),
+            95..=97 => self.draw.from(4_000, 100_000),
+            98 => self.draw.from(100_000, 999_999),
+            _ => 1_000_000,
+        }
+    }
+
+    /// The package that program `number` passes on to.
+    fn next_slot(&mut self, number: u32) -> u32 {
+        match self.slots.get(number as usize + 1) {
+            Some(slot) if self.draw.often(90) => *slot,
+            _ if self.draw.often(90) => self.draw.pick(&self.slots),
+            _ => self.draw.below(256) as u32,
+        }
+    }
+
+    fn place(&mut self, number: u32, package: &Package) {
+        let slot = self.slots[number as usize];
+        self.draft.package(slot, package);
+        if self.draw.often(40) {
+            self.draft.litter(slot, &mut self.draw);
+        }
+    }
+
+    fn quiet(&mut self, number: u32) -> Package {
+        let block = (CODE + number * ROOM) / BLOCK;
+        let mut package = Package::draw(&mut self.draw);
+        package.code = (block, block + ROOM / BLOCK);
+        package.data = WIDE;
+        package.modes |= MONITOR;
+        package.vl = self.draw.pick(&[0, 64]);
+        package.xa = self.next_slot(number);
+        package
+    }
+
+    fn filler(&mut self) {
+        let package = self.quiet(0);
+        let mut program = Program::new(0);
+        fill(&mut program, &mut self.draw, DATA_WORDS);
+        program.one(0o004, 0, 0, 0);
+        program.branch(0o006, 0);
+        self.draft.program(CODE, &program);
+        self.place(0, &package);
+    }
+
+    fn dumper(&mut self, number: u32) {
+        let package = self.quiet(number);
+        let mut program = Program::new(0);
+        dump(&mut program, 0x400);
+        match self.draw.below(3) {
+            0 => program.one(0o000, 0, 0, 1),
+            1 => program.one(0o033, 1, 2, 0),
+            _ => program.one(0o004, 0, 0, 0),
+        }
+        program.branch(0o006, 0);
+        self.draft.program(CODE + number * ROOM, &program);
+        self.place(number, &package);
+    }
+
+    /// A program of drawn instructions, at the base of its field or leading to
+    /// a tail at the field's end.
+    fn worker(&mut self, number: u32, alone: bool) {
+        let last = number > 0 && self.draw.often(22);
+        let base = if last { 0xFE0 } else { CODE + number * ROOM };
+        let blocks = if last { 1 } else { ROOM / BLOCK };
+        let mut package = Package::draw(&mut self.draw);
+        package.code.0 = base / BLOCK;
+        package.code.1 = base / BLOCK + blocks;
+        if last {
+            package.code.1 = self.draw.pick(&[128, 129, 129, 200, 0x1_FFFF]);
+        }
+        if number > 0 && self.draw.often(4) {
+            package.code.0 |= 1 << self.draw.from(8, 16);
+        } else if number > 0 && self.draw.often(4) {
+            package.p |= 1 << self.draw.from(12, 23);
+        }
+        package.data = if alone {
+            WIDE
+        } else {
+            data_field(&mut self.draw)
+        };
+        package.xa = self.next_slot(number);
+        let mut program = Program::new(0);
+        if alone {
+            package.vl = 0;
+            fill(&mut program, &mut self.draw, DATA_WORDS);
+        }
+        let most = if last { 80 } else { 300 };
+        self.body(&mut program, &package, most);
+        if alone && self.draw.often(80) {
+            dump(&mut program, 0x400);
+        }
+        self.ending(&mut program, base, blocks * 128);
+        self.draft.program(base, &program);
+        self.place(number, &package);
+    }
+
+    /// Drawn instructions, up to about `most` parcels.
+    fn body(&mut self, program: &mut Program, package: &Package, most: usize) {
+        let wanted = self.draw.from(1, 45) as usize;
+        let mut starts = Vec::new();
+        let mut skips = Vec::new();
+        while starts.len() < wanted && program.parcels.len() < most {
+            starts.push(program.here());
+            if self.draw.below(300) == 0 {
+                program.parcels.push(self.draw.next() as u16);
+                continue;
+            }
+            let code = self.code(package.modes & MONITOR != 0);
+            let skip = self.instruction(program, package, code, &starts);
+            skips.extend(skip);
+        }
+        starts.push(program.here());
+        for skip in skips {
+            let target = starts[skip.after.min(starts.len() - 1)];
+            let mut branch = Program::new(0);
+            branch.branch(skip.gh, target);
+            program.parcels[skip.parcel..skip.parcel + 2].copy_from_slice(&branch.parcels);
+        }
+    }
+
+    /// A pattern, those that end a program or stop it being rare.
+    fn code(&mut self, monitor: bool) -> Code {
+        loop {
+            let code = self.draw.pick(CODES);
+            let rare = match code.text {
+                "000000" => 15,
+                "004000" => 25,
+                "006ujkm" | "007ujkm" | "0050jk" => 70,
+                _ if code.mode == Mode::User && monitor => 1,
+                _ => 100,
+            };
+            if self.draw.often(rare) {
+                return code;
+            }
+        }
+    }
+
+    /// Emits one instruction and, before it, what gives it good operands.
+    fn instruction(
+        &mut self,
+        program: &mut Program,
+        package: &Package,
+        code: Code,
+        starts: &[u32],
+    ) -> Option<Skip> {
+        let mut parcel = 0;
+        for letter in code.text.bytes().take(6) {
+            let range = digits(letter);
+            let digit = self
+                .draw
+                .from(u64::from(*range.start()), u64::from(*range.end()));
+            parcel = parcel << 3 | digit as u16;
+        }
+        let mut second = self.draw.next() as u16;
+        match parcel >> 9 {
+            0o006..=0o017 if parcel & 0o400 == 0 => {
+                return self.branch(program, parcel, second, starts);
+            }
+            0o005 if self.draw.often(85) => self.link(program, parcel),
+            0o100..=0o137 => (parcel, second) = self.reference(program, package, parcel, second),
+            _ => self.operands(program, package, parcel),
+        }
+        program.parcels.push(parcel);
+        if code.two_parcels() {
+            program.parcels.push(second);
+        }
+        None
+    }
+
+    fn branch(
+        &mut self,
+        program: &mut Program,
+        parcel: u16,
+        second: u16,
+        starts: &[u32],
+    ) -> Option<Skip> {
+        let gh = parcel >> 9;
+        match gh {
+            0o010..=0o013 if self.draw.often(60) => {
+                let any = self.draw.address();
+                let value = self.draw.pick(&[0, 0, 1, 0x80_0000, any]);
+                program.set_a(0, value);
+            }
+            0o014..=0o017 if self.draw.often(60) => {
+                // Ones at the left: none, the sign alone, or more.
+                let ones = self.draw.pick(&[0, 0, 1, 63]);
+                program.one(0o043, 0, ones >> 3, ones & 7);
+            }
+            _ => {}
+        }
+        if self.draw.often(40) {
+            program.parcels.push(parcel);
+            program.parcels.push(second);
+            return None;
+        }
+        if self.draw.often(8) {
+            // Back, or to a place that only a cut address would be.
+            let high = 1 << self.draw.from(10, 23);
+            let high = self.draw.pick(&[0, 0, high, 1 << 23]);
+            program.branch(gh, self.draw.pick(starts) | high);
+            return None;
+        }
+        let after = starts.len() + self.draw.below(4) as usize;
+        let place = program.parcels.len();
+        program.branch(gh, 0);
+        let parcel = place;
+        Some(Skip { parcel, gh, after })
+    }
+
+    /// Puts the address after the branch to Bjk into that register.
+    fn link(&mut self, program: &mut Program, parcel: u16) {
+        let via = self.draw.digit();
+        program.set_a(via, program.here() + 4);
+        program.one(0o025, via, parcel >> 3 & 7, parcel & 7);
+    }
+
+    /// Sets Ah so that Ah+jkm meets an address that matters.
+    fn reference(
+        &mut self,
+        program: &mut Program,
+        package: &Package,
+        parcel: u16,
+        second: u16,
+    ) -> (u16, u16) {
+        let target = aim(&mut self.draw, package.data);
+        let h = parcel >> 9 & 7;
+        if h == 0 && self.draw.often(50) {
+            return (parcel & !0o77 | (target >> 16) as u16 & 0o77, target as u16);
+        }
+        let jkm = u32::from(parcel & 0o77) << 16 | u32::from(second);
+        if h != 0 && self.draw.often(80) {
+            program.set_a(h, target.wrapping_sub(jkm) & 0xFF_FFFF);
+        }
+        (parcel, second)
+    }
+
+    /// Sets the A registers that an instruction takes a count, an address, a
+    /// length or a package from.
+    fn operands(&mut self, program: &mut Program, package: &Package, parcel: u16) {
+        let (i, j, k) = (parcel >> 6 & 7, parcel >> 3 & 7, parcel & 7);
+        if self.draw.often(25) {
+            return;
+        }
+        match parcel >> 9 {
+            0o001 if i == 3 => {
+                let slot = self.draw.pick(&self.slots);
+                program.set_a(j, slot << 4 | self.draw.below(16) as u32);
+            }
+            0o002 if i == 0 => program.set_a(k, self.draw.below(130) as u32),
+            0o034..=0o037 => {
+                program.set_a(i, self.draw.count());
+                program.set_a(0, aim(&mut self.draw, package.data));
+            }
+            0o056 | 0o057 | 0o150..=0o153 => program.set_a(k, self.draw.count()),
+            0o176 | 0o177 => {
+                program.set_a(k, stride(&mut self.draw));
+                program.set_a(0, aim(&mut self.draw, package.data));
+            }
+            _ => {}
+        }
+    }
+
+    /// What stands after the body: an exit, a stop, a loop, a branch away, or
+    /// a branch to the last parcels of the field.
+    fn ending(&mut self, program: &mut Program, base: u32, parcels: u32) {
+        // At the end of memory mostly the last parcels are wanted.
+        let kinds = if base == 0xFE0 { 7 } else { 10 };
+        match self.draw.below(kinds) {
+            0 => program.one(0o000, 0, 0, 0),
+            1 => program.parcels.push(self.draw.next() as u16),
+            2 => program.branch(0o006, 0),
+            3 => {
+                let wrapped = (0x100_0000 - base * 4) as u64 + self.draw.below(8);
+                let any = self.draw.below(1 << 24);
+                let target = self
+                    .draw
+                    .pick(&[wrapped, any, 0xFF_FFFF, u64::from(parcels)]);
+                program.branch(0o006, target as u32 & 0xFF_FFFF);
+            }
+            4..=6 => self.tail(program, base, parcels),
+            _ => {
+                program.one(0o004, 0, 0, 0);
+                program.branch(0o006, 0);
+            }
+        }
+    }
+
+    /// Up to four parcels that end at the field's last parcel.
+    fn tail(&mut self, program: &mut Program, base: u32, parcels: u32) {
+        let length = self.draw.from(1, 4) as u32;
+        let mut tail = Program::new(parcels - length);
+        for _ in 1..length {
+            tail.one(0o002, 7, 0, 0);
+        }
+        let any = self.draw.next() as u16;
+        let last = match self.draw.below(7) {
+            0 => 0o004_000,
+            1 => 0o006_400 | any & 0o377,
+            2 => 0o005_000 | any & 0o77,
+            3 => 0o100_000 | any & 0o37_777,
+            4 => 0o010_000 | any & 0o7_777,
+            5 => 0o002_700,
+            _ => any,
+        };
+        tail.parcels.push(last);
+        program.branch(0o006, tail.at);
+        self.draft.program(base, &tail);
+    }
+}

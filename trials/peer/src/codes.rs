@@ -1,0 +1,100 @@
+//! The held codes as a list of patterns, apart from the machine's own table.
+//!
+//! The generator draws instructions from this list and the coverage counts by
+//! it; a test checks that it names exactly the codes that the machine holds.
+
+/// In which mode a code is held.
+#[derive(Clone, Copy, PartialEq, Eq, Debug)]
+pub enum Mode {
+    Both,
+    User,
+}
+
+/// Six places of octal digits, highest first. A digit stands for itself; `h`,
+/// `i`, `j`, `k` are any digit; `u` is an i of 0 to 3 and `c` one of 4 to 7.
+/// A seventh letter, `m`, marks a second parcel.
+#[derive(Clone, Copy, Debug)]
+pub struct Code {
+    pub text: &'static str,
+    pub mode: Mode,
+}
+
+const fn both(text: &'static str) -> Code {
+    let mode = Mode::Both;
+    Code { text, mode }
+}
+
+const fn user(text: &'static str) -> Code {
+    let mode = Mode::User;
+    Code { text, mode }
+}
+
+/// A parcel belongs to the first pattern that it fits: 001000 is before 0010jk.
+#[rustfmt::skip]
+pub const CODES: &[Code] = &[
+    both("000000"), both("001000"), user("0010jk"), user("0011jk"), user("0012jk"),
+    both("0013j0"), user("0014jk"), user("0015jk"),
+    both("00200k"), both("002300"), both("002400"), both("002500"), both("002600"),
+    both("002700"), both("0030j0"), both("004000"), both("0050jk"),
+    both("006ujkm"), both("007ujkm"),
+    both("010ujkm"), both("011ujkm"), both("012ujkm"), both("013ujkm"),
+    both("014ujkm"), both("015ujkm"), both("016ujkm"), both("017ujkm"),
+    both("01hcjkm"),
+    both("020ijkm"), both("021ijkm"), both("022ijk"), both("023ij0"), both("023i01"),
+    both("024ijk"), both("025ijk"), both("026ij0"), both("026ij1"), both("027ij0"),
+    both("030ijk"), both("031ijk"), both("032ijk"),
+    both("034ijk"), both("035ijk"), both("036ijk"), both("037ijk"),
+    both("040ijkm"), both("041ijkm"), both("042ijk"), both("043ijk"),
+    both("044ijk"), both("045ijk"), both("046ijk"), both("047ijk"),
+    both("050ijk"), both("051ijk"), both("052ijk"), both("053ijk"),
+    both("054ijk"), both("055ijk"), both("056ijk"), both("057ijk"),
+    both("060ijk"), both("061ijk"),
+    both("071i0k"), both("071i1k"), both("073i00"), both("073i01"),
+    both("074ijk"), both("075ijk"), both("076ijk"), both("077ijk"),
+    both("10hijkm"), both("11hijkm"), both("12hijkm"), both("13hijkm"),
+    both("140ijk"), both("141ijk"), both("142ijk"), both("143ijk"),
+    both("144ijk"), both("145ijk"), both("146ijk"), both("147ijk"),
+    both("150ijk"), both("151ijk"), both("152ijk"), both("153ijk"),
+    both("154ijk"), both("155ijk"), both("156ijk"), both("157ijk"),
+    both("174ij1"), both("174ij2"),
+    both("1750j0"), both("1750j1"), both("1750j2"), both("1750j3"),
+    both("176i0k"), both("1770jk"),
+];
+
+/// The digits that a letter of a pattern stands for.
+pub fn digits(letter: u8) -> std::ops::RangeInclusive<u16> {
+    match letter {
+        b'0'..=b'7' => u16::from(letter - b'0')..=u16::from(letter - b'0'),
+        b'u' => 0..=3,
+        b'c' => 4..=7,
+        _ => 0..=7,
+    }
+}
+
+/// The octal digits of a parcel; the first has one bit, the others three.
+pub fn split(parcel: u16) -> [u16; 6] {
+    let digit = |n: u16| parcel >> (15 - 3 * n) & 7;
+    [0, 1, 2, 3, 4, 5].map(digit)
+}
+
+impl Code {
+    pub fn fits(&self, parcel: u16) -> bool {
+        let pairs = self.text.bytes().zip(split(parcel));
+        pairs
+            .into_iter()
+            .all(|(letter, digit)| digits(letter).contains(&digit))
+    }
+
+    pub fn two_parcels(&self) -> bool {
+        self.text.len() == 7
+    }
+
+    pub fn held(&self, monitor: bool) -> bool {
+        self.mode == Mode::Both || !monitor
+    }
+}
+
+/// The pattern of a first parcel, if it is held in some mode.
+pub fn find(parcel: u16) -> Option<usize> {
+    CODES.iter().position(|code| code.fits(parcel))
+}
