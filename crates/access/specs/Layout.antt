@@ -3,26 +3,49 @@ use Prim.Native.Nat.{ℕ, _+_, _-_, _*_, _^_, _<_, _≤_}
 use mathlib.Core.Path.{_≡_}
 use mathlib.Core.List.{List}
 use lib.ListN.{getD}
-use lib.Dec.{leb}
+use lib.Dec.{eqb, leb}
 use Rattle.machine.specs.declared.Frame.{Frame}
 use Rattle.machine.specs.declared.Registers.{Registers}
 use Rattle.machine.specs.declared.Reach.{Reach}
 use Rattle.machine.specs.Word.{pick}
-use Rattle.machine.specs.State.{user}
+use Rattle.machine.specs.State.{user, control}
 
 -- the registers from their lists, the last of which holds XA, VL, VM, IOR and BDM
 abbrev pub registers : List ℕ → List ℕ → List ℕ → List ℕ → List ℕ → List ℕ → Registers
 registers a s b t v k =
     record {
-      a = a; s = s; b = b; t = t; v = v;
-      xa = getD k 0 0; vl = getD k 1 0; vm = getD k 2 0; ior = getD k 3 0; bdm = getD k 4 0 }
+      a = a;
+      s = s;
+      b = b;
+      t = t;
+      v = v;
+      xa = getD k 0 0;
+      vl = getD k 1 0;
+      vm = getD k 2 0;
+      ior = getD k 3 0;
+      bdm = getD k 4 0;
+    }
+
+-- the registers with the control register at place n become y
+abbrev pub controlled : Registers → ℕ → ℕ → Registers
+controlled r n y =
+    control r (pick (eqb n 0) y (r .xa)) (pick (eqb n 1) y (r .vl)) (pick (eqb n 2) y (r .vm)) (pick (eqb n 3) y (r .ior)) (pick (eqb n 4) y (r .bdm))
 
 -- the frame from its list
 abbrev pub frame : List ℕ → Frame
 frame q =
     record {
-      iba = getD q 0 0; ila = getD q 1 0; dba = getD q 2 0; dla = getD q 3 0; mm = getD q 4 0;
-      ifp = getD q 5 0; fps = getD q 6 0; ps = getD q 7 0; cln = getD q 8 0; processor = getD q 9 0 }
+      iba = getD q 0 0;
+      ila = getD q 1 0;
+      dba = getD q 2 0;
+      dla = getD q 3 0;
+      mm = getD q 4 0;
+      ifp = getD q 5 0;
+      fps = getD q 6 0;
+      ps = getD q 7 0;
+      cln = getD q 8 0;
+      processor = getD q 9 0;
+    }
 
 -- the widths of what only an exchange changes
 pub record FrameOk (fr : Frame) : Type 0 where

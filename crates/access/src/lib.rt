@@ -6,12 +6,13 @@ ghost use Prim.Native.Nat.{ℕ, _+_, _*_, _/_, _%_, _^_, _<_, _≤_};
 ghost use lib.ListN.{length, getD, set};
 ghost use Rattle.machine.specs.declared.Frame.{Frame};
 ghost use Rattle.machine.specs.declared.Fetched.the-variants.{Parcel};
+ghost use Rattle.machine.specs.declared.Place.the-variants.{At};
 ghost use Rattle.machine.specs.declared.Work.the-variants.{Next};
 ghost use Rattle.machine.specs.Parcel.{hOf, iOf, jOf, kOf, jkOf, jkmOf, ijkmOf, onward};
 ghost use Rattle.machine.specs.State.{zeroOr, oneOr, signOr};
 ghost use Rattle.machine.specs.Memory.{dataField, placeOf, fetchOf};
 ghost use Rattle.machine.specs.Work.{parcel, ranged, noParcel};
-ghost use Rattle.access.specs.Layout.{frame, extent, Reaches, Inside};
+ghost use Rattle.access.specs.Layout.{registers, controlled, frame, extent, Reaches, Inside};
 use machine::Fetched;
 use machine::ParcelAddr;
 use machine::Place;
@@ -167,6 +168,20 @@ pub fn put(r: &mut [u64; 8], p: ParcelAddr, x: u64, y: u64) -> Work
     past(p, 1)
 }
 
+// No code: the list of an array has its five elements. The checker tells it of an array by value only, so k is copied for it.
+fn five(k: [u64; 5])
+    ensures { λ _. ⌜ length k ≡ 5 ⌝ }
+{}
+
+// The control register at a place becomes y.
+pub fn set_control(k: &mut [u64; 5], place: usize, y: u64)
+    requires { ⌜ place < 5 ⌝ }
+    ensures { λ _. ⌜ ((a s b t v : List ℕ) → registers a s b t v (now (k .exit)) ≡ controlled (registers a s b t v (now (k .entry))) place y) ⌝ }
+{
+    five(*k);
+    k[place] = y;
+}
+
 // What a parcel outside its field comes to.
 pub fn no_parcel(f: Reach) -> Work
     ensures { λ w. ⌜ w ≡ noParcel (f .user) ⌝ }
@@ -241,10 +256,11 @@ pub fn word_at(n: u64) -> WordAddr
     WordAddr(n % 4194304)
 }
 
-// The place of a word of the data field.
+// The place in the data field of the address whose low 64 bits are n.
 pub fn locate(f: Reach, n: u64) -> Place
     requires { ⌜ f .operands ≤ 2 ^ 22 ⌝ }
-    ensures { λ r. ⌜ ((fr : Frame) (len : ℕ) → Reaches fr f len → r ≡ placeOf (dataField fr) len n) ⌝ }
+    ensures { λ r. ⌜ ((fr : Frame) (len address : ℕ) → Reaches fr f len → n ≡ address % 2 ^ 64 → r ≡ placeOf (dataField fr) len address) ⌝ }
+    ensures { λ r. ⌜ ((len at : ℕ) → Inside f len → r ≡ At at → at < len) ⌝ }
 {
     let w = word_at(n);
     if w.0 < f.words {

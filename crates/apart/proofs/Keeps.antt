@@ -1,42 +1,31 @@
 -- A step changes only words of its data field and of the package that its XA names, and keeps all lengths. Assumes nothing.
-use Prim.Native.Nat.{ℕ, zero, suc, _+_, _*_, _%_, _≤_, _<_}
+use Prim.Native.Nat.{ℕ, zero, suc, _+_, _*_, _%_}
 use mathlib.Core.Path.{_≡_, refl, _∙_}
 use mathlib.Core.Logic.{inl, inr}
 use mathlib.Core.List.{List}
 use native.Mathlib.Omega.{arith}
-use lib.ListN.{length, getD, length-set}
-use lib.Seq.{getD-set-other}
+use lib.ListN.{length, length-set}
 use Rattle.machine.specs.declared.Frame.{Frame}
 use Rattle.machine.specs.declared.Registers.{Registers}
 use Rattle.machine.specs.declared.State.{State}
 use Rattle.machine.specs.declared.Work.{Work}
 use Rattle.machine.specs.declared.Work.the-variants.{Next, NormalExit, ErrorExit, OperandRange, ProgramRange, Unheld, Unfetched}
-use Rattle.machine.specs.State.{fill, ring, Put, Nothing, ToA, ToS, ToB, ToT, ToBs, ToTs, ToV, ToElement, ToVL, ToVM, ToIOR, ToBDM, apply}
+use Rattle.machine.specs.State.{ring, Put, Nothing, ToA, ToS, ToB, ToT, ToBs, ToTs, ToV, ToElement, ToVL, ToVM, ToIOR, ToBDM, apply}
 use Rattle.machine.specs.Memory.{dataField, load}
 use Rattle.machine.specs.Act.{Act, Does, Goes, NewXA, Reads, Writes, LeavesNormally, LeavesByError}
 use Rattle.machine.specs.Work.{perform, workOf}
 use Rattle.machine.specs.Exchange.{save, loaded}
 use Rattle.machine.specs.Step.{exchange, finish, finishOf, stepOf}
+use Rattle.access.proofs.Laws.{fill-other, fill-length}
 use Rattle.apart.specs.Keeps.{Package, Touches, Sized}
 use Rattle.apart.proofs.Agree.{Only, itself, chain, weaken}
 use Rattle.apart.proofs.Step.{work-both, work-only}
 
--- the words that are filled, and no others, may change
-fill-length : (at : ℕ) (f : ℕ → ℕ) (n : ℕ) (l : List ℕ) → length (fill at f n l) ≡ length l
-unfolding fill
-fill-length at f zero l = refl
-fill-length at f (suc n) l = length-set (fill at f n l) (at + n) (f n) ∙ fill-length at f n l
-
+-- a list keeps its length
 ring-length : (at : ℕ) (f : ℕ → ℕ) (n : ℕ) (l : List ℕ) → length (ring at f n l) ≡ length l
 unfolding ring
 ring-length at f zero l = refl
 ring-length at f (suc n) l = length-set (ring at f n l) ((at + n) % 64) (f n) ∙ ring-length at f n l
-
-fill-other : (at : ℕ) (f : ℕ → ℕ) (n : ℕ) (l : List ℕ) (w : ℕ) → ((at ≤ w) × (w < at + n) → ⊥) → getD (fill at f n l) w 0 ≡ getD l w 0
-unfolding fill
-fill-other at f zero l w out = refl
-fill-other at f (suc n) l w out =
-    getD-set-other (fill at f n l) (at + n) w (f n) 0 (λ e. out (omega (arith, e))) ∙ fill-other at f n l w (λ h. out (omega (arith, h)))
 
 -- an exchange or a stop follows
 abbrev Ends : Work → Type 0
@@ -81,7 +70,7 @@ work-xa fr r p m =
 
 save-only : (fr : Frame) (r : Registers) (p flags x : ℕ) (m : List ℕ) → Only (Package x) m (save fr r p flags x m)
 unfolding save
-save-only fr r p flags x m = record { long = fill-length _ _ 16 m; same = λ w out. fill-other _ _ 16 m w out }
+save-only fr r p flags x m = record { long = fill-length _ _ 16 m; same = λ w out. fill-other _ _ 16 m w (λ e l z. out (omega (arith, l, z))) }
 
 finish-only : (st : State) (w : Work) (r : Registers) (m : List ℕ) (x : ℕ) → (Ends w → r .xa ≡ x) → Only (Package x) m (finish st w r m .mem)
 unfolding finish exchange

@@ -2,7 +2,7 @@
 use Prim.Native.Nat.{ℕ, zero, suc, _+_, _≤_, _<_}
 use mathlib.Core.Path.{_≡_, refl, _∙_}
 use mathlib.Core.Logic.{_⊎_, inl, inr}
-use mathlib.Core.List.{List, [], _∷_}
+use mathlib.Core.List.{List}
 use native.Mathlib.Omega.{arith}
 use native.Mathlib.Nat.{zero-add, suc-add}
 use lib.ListN.{length}
@@ -10,8 +10,9 @@ use Rattle.machine.specs.declared.State.{State}
 use Rattle.machine.specs.declared.Answer.{Answer}
 use Rattle.machine.specs.declared.Answer.the-variants.{Stepped, Exchanged, NotHeld, MonitorFetch}
 use Rattle.machine.specs.Step.{out, stepOf}
-use Rattle.machine.specs.Run.{Ended, ended, goesOn, runOf, PairEnded, pairGoesOn, pairOf}
+use Rattle.machine.specs.Run.{Ended, ended, goesOn, runOf, pairOf}
 use Rattle.laws.proofs.Laws.{Stop, step-stop}
+use Rattle.laws.proofs.Kept.{run-keeps, pair-keeps}
 use Rattle.apart.specs.Keeps.{Sized}
 use Rattle.apart.proofs.Keeps.{step-length, step-sized}
 
@@ -76,41 +77,7 @@ run-stopped a n st m s b k = go (runOf a n st m) (run-ends a n st m) s
     go e (inl h) s = let z : ⊥ = rw (h .0) at s in absurd z
     go e (inr h) s = rw (h .step) (stop-ends (e .last) _ _ s)
 
--- what every step keeps, a run keeps, and a pair run
-pub run-keeps : (Q : State → List ℕ → Type 0) → ((st : State) (m : List ℕ) → Q st m → Q (stepOf st m .state) (stepOf st m .mem))
-    → (a n : ℕ) (st : State) (m : List ℕ) → Q st m → Q (runOf a n st m .state) (runOf a n st m .mem)
-unfolding runOf
-run-keeps Q step zero n st m q = q
-run-keeps Q step (suc a) n st m q =
-    go (stepOf st m .answer) (runOf a (suc n) (stepOf st m .state) (stepOf st m .mem)) (run-keeps Q step a (suc n) (stepOf st m .state) (stepOf st m .mem) (step st m q))
-  where
-    go : (o : Answer) (e : Ended) → Q (e .state) (e .mem) → Q (goesOn o e (ended o n st m) .state) (goesOn o e (ended o n st m) .mem)
-    go Stepped e h = h
-    go (Exchanged flags) e h = h
-    go (NotHeld p) e h = q
-    go (MonitorFetch p) e h = q
-
-pair-go : (Q : PairEnded → Type 0) (o : Answer) (n : ℕ) (rest : PairEnded) (stop : ℕ → PairEnded) → Q rest → ((k : ℕ) → Q (stop k)) → Q (pairGoesOn o n rest stop)
-pair-go Q Stepped n rest stop r s = r
-pair-go Q (Exchanged flags) n rest stop r s = s (suc n)
-pair-go Q (NotHeld p) n rest stop r s = s n
-pair-go Q (MonitorFetch p) n rest stop r s = s n
-
-module _ (Q : State → State → List ℕ → Type 0)
-    (first : (x y : State) (m : List ℕ) → Q x y m → Q (stepOf x m .state) y (stepOf x m .mem))
-    (second : (x y : State) (m : List ℕ) → Q x y m → Q x (stepOf y m .state) (stepOf y m .mem)) where
-  pub pair-keeps : (bytes : List ℕ) (last : List Answer) (n : ℕ) (x y : State) (m : List ℕ) → Q x y m
-      → Q (pairOf bytes last n x y m .first) (pairOf bytes last n x y m .second) (pairOf bytes last n x y m .mem)
-  unfolding pairOf
-  pair-keeps [] last n x y m q = q
-  pair-keeps (zero ∷ bytes) last n x y m q =
-      pair-go (λ e. Q (e .first) (e .second) (e .mem)) (stepOf x m .answer) n _ _
-      (pair-keeps bytes (Stepped ∷ []) (suc n) (stepOf x m .state) y (stepOf x m .mem) (first x y m q)) (λ k. first x y m q)
-  pair-keeps (suc b ∷ bytes) last n x y m q =
-      pair-go (λ e. Q (e .first) (e .second) (e .mem)) (stepOf y m .answer) n _ _
-      (pair-keeps bytes (Stepped ∷ []) (suc n) x (stepOf y m .state) (stepOf y m .mem) (second x y m q)) (λ k. second x y m q)
-
--- so all lengths stay
+-- all lengths stay
 pub run-length : (a n : ℕ) (st : State) (m : List ℕ) → length (runOf a n st m .mem) ≡ length m
 run-length a n st m = run-keeps (λ s l. length l ≡ length m) (λ s l e. step-length s l ∙ e) a n st m refl
 

@@ -13,8 +13,8 @@ ghost use Rattle.machine.specs.State.{user};
 ghost use Rattle.machine.specs.Act.{Instr, ErrorExit, VMFromS, NormalExit, JumpB, Jump, ReturnJump};
 ghost use Rattle.machine.specs.Codes.{One, Two, only, code001, code002, branchOr};
 ghost use Rattle.machine.specs.Work.{done, parcel, execute};
-ghost use Rattle.access.specs.Layout.{registers, Reaches, Inside};
-ghost use Rattle.control.specs.Control.{controlled, Branches};
+ghost use Rattle.access.specs.Layout.{registers, controlled, Reaches, Inside};
+ghost use Rattle.control.specs.Control.{Branches};
 use machine::Fetched;
 use machine::ParcelAddr;
 use machine::Reach;
@@ -49,19 +49,13 @@ pub fn normal_exit(p: ParcelAddr, x: u64) -> Work
     }
 }
 
-// No code: the list of an array has its five elements. The checker tells it of an array by value only, so k is copied for it.
-fn five(k: [u64; 5])
-    ensures { λ r. ⌜ length k ≡ 5 ⌝ }
-{}
-
 // The end of an instruction that sets the control register at a place.
-fn set_control(k: &mut [u64; 5], place: usize, y: u64, p: ParcelAddr) -> Work
+fn set_register(k: &mut [u64; 5], place: usize, y: u64, p: ParcelAddr) -> Work
     requires { ⌜ place < 5 ⌝ }
     ensures { λ w. ⌜ ((a s b t v : List ℕ) → registers a s b t v (now (k .exit)) ≡ controlled (registers a s b t v (now (k .entry))) place y) ⌝ }
     ensures { λ w. ⌜ w ≡ Next (parcel (onward (p .0) 1)) ⌝ }
 {
-    five(*k);
-    k[place] = y;
+    access::set_control(k, place, y);
     access::past(p, 1)
 }
 
@@ -88,7 +82,7 @@ pub fn privileged(a: &[u64; 8], k: &mut [u64; 5], f: Reach, p: ParcelAddr, x: u6
     if f.user {
         return access::past(p, 1);
     }
-    set_control(k, access::XA, access::at_j(a, x) / 16 % 256, p)
+    set_register(k, access::XA, access::at_j(a, x) / 16 % 256, p)
 }
 
 // 00200k: VL from Ak. 002300 to 002600: IOR set and cleared, BDM cleared and set. 002700 passes.
@@ -100,16 +94,16 @@ pub fn modes(a: &[u64; 8], k: &mut [u64; 5], p: ParcelAddr, x: u64) -> Work
     }
     let i = access::i(x);
     if i == 0 {
-        return set_control(k, access::VL, word::vector_length(access::a_k(a, x)), p);
+        return set_register(k, access::VL, word::vector_length(access::a_k(a, x)), p);
     }
     if access::k(x) != 0 {
         return Work::Unheld;
     }
     match i {
-        3 => set_control(k, access::IOR, 1, p),
-        4 => set_control(k, access::IOR, 0, p),
-        5 => set_control(k, access::BDM, 0, p),
-        6 => set_control(k, access::BDM, 1, p),
+        3 => set_register(k, access::IOR, 1, p),
+        4 => set_register(k, access::IOR, 0, p),
+        5 => set_register(k, access::BDM, 0, p),
+        6 => set_register(k, access::BDM, 1, p),
         7 => access::past(p, 1),
         _ => Work::Unheld,
     }
@@ -120,7 +114,7 @@ pub fn set_mask(s: &[u64; 8], k: &mut [u64; 5], p: ParcelAddr, x: u64) -> Work
     ensures { λ w. ⌜ ((fr : Frame) (a b t v mem : List ℕ) → done w (registers a (now (s .entry)) b t v (now (k .exit))) mem ≡ execute fr (registers a (now (s .entry)) b t v (now (k .entry))) (p .0) mem (only (eqb (iOf x) 0 && eqb (kOf x) 0) (One VMFromS)) x) ⌝ }
 {
     if access::i(x) == 0 && access::k(x) == 0 {
-        set_control(k, access::VM, access::at_j(s, x), p)
+        set_register(k, access::VM, access::at_j(s, x), p)
     } else {
         Work::Unheld
     }

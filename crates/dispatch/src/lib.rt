@@ -2,8 +2,8 @@
 // whose last arm hands on to the next, which the compiler joins to one table; each has one call.
 ghost use mathlib.Core.Path.{_≡_};
 ghost use mathlib.Core.List.{List};
-ghost use Prim.Native.Nat.{ℕ, _+_, _*_, _/_, _%_, _^_, _<_, _≤_};
-ghost use lib.ListN.{length, getD};
+ghost use Prim.Native.Nat.{ℕ, _/_, _%_, _^_, _<_, _≤_};
+ghost use lib.ListN.{length};
 ghost use Rattle.machine.specs.declared.Frame.{Frame};
 ghost use Rattle.machine.specs.State.{user};
 ghost use Rattle.machine.specs.Codes.{codeOf};

@@ -61,7 +61,7 @@ fits-control r e =
     }
 
 -- the three tests of a state
-state-tests : (st : State) → stateFits st ≡ true → (ltb (st .p .0) (2 ^ 24) ≡ true) × (registersFit (st .registers) ≡ true) × (frameFits (st .frame) ≡ true)
+pub state-tests : (st : State) → stateFits st ≡ true → (ltb (st .p .0) (2 ^ 24) ≡ true) × (registersFit (st .registers) ≡ true) × (frameFits (st .frame) ≡ true)
 unfolding stateFits
 state-tests st e =
     let h = and-eq-true-iff (ltb (st .p .0) (2 ^ 24) && registersFit (st .registers)) (frameFits (st .frame)) .0 e in

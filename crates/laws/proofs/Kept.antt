@@ -7,7 +7,7 @@ use mathlib.Core.List.{List, [], _∷_}
 use native.Mathlib.Nat.{mod-lt, lt-of-lt-of-le, lt-of-le-of-lt}
 use native.Mathlib.Omega.{arith}
 use lib.ListN.{length, getD, set}
-use lib.Dec.{eqb, ltb, eqb·suc-zero}
+use lib.Dec.{eqb, ltb}
 use lib.Bits.{and-lt, or-lt, xor-lt}
 use lib.Count.{ones-le, leading-le}
 use lib.Pow.{pow-pos, pow-mono, pow-sub-lt, ones-lt, ones-sub-lt, shr-le}
@@ -22,7 +22,7 @@ use Rattle.machine.specs.declared.Work.{Work}
 use Rattle.machine.specs.declared.Work.the-variants as work
 use Rattle.machine.specs.declared.Answer.{Answer}
 use Rattle.machine.specs.declared.Answer.the-variants.{Stepped, Exchanged, NotHeld, MonitorFetch}
-use Rattle.machine.specs.Word.{pick, lengthOf, sum24, difference24, product24, sum64, difference64, merge, left, right, leftPair, rightPair, onesLeft, onesRight, parity, signed, minus24, minus64}
+use Rattle.machine.specs.Word.{pick, sum24, difference24, product24, sum64, difference64, merge, left, right, leftPair, rightPair, onesLeft, onesRight, parity, signed, minus24, minus64}
 use Rattle.machine.specs.Parcel.{iOf, jOf, kOf, jkOf, ijkmOf, onward}
 use Rattle.machine.specs.State.{user, ai, ak, si, sj, sk, el, fill, ring, Put, Nothing, ToA, ToS, ToB, ToT, ToBs, ToTs, ToV, ToElement, ToVL, ToVM, ToIOR, ToBDM, apply}
 use Rattle.machine.specs.Memory.{Field, codeField, dataField, placeOf, loadAt, storeAt, load, store, stores, parcelAt, fetchOf}
@@ -30,13 +30,14 @@ use Rattle.machine.specs.Act.{Act, Does, Goes, NewXA, Reads, Writes, LeavesNorm
 use Rattle.machine.specs.Act.{Instr, ErrorExit, Pass, SetXA, SetVL, SetIOR, ClearIOR, ClearBDM, SetBDM, VMFromS, NormalExit, JumpB, Jump, ReturnJump, JumpAZ, JumpAN, JumpAP, JumpAM, JumpSZ, JumpSN, JumpSP, JumpSM, ConstantAh, ConstantA, ComplementA, ShortA, AFromS, AFromVL, AFromB, BFromA, AOnes, AParity, AZeros, SumA, DifferenceA, ProductA, ReadB, StoreB, ReadT, StoreT, ConstantS, ComplementS, OnesRightS, OnesLeftS, AndS, AndNotS, XorS, EqvS, MergeS, OrS, LeftS0, RightS0, LeftS, RightS, LeftPairS, RightPairS, SumS, DifferenceS, SFromA, SFromSignedA, SFromVM, Status, SFromT, TFromS, SFromV, VFromS, LoadA, StoreA, LoadS, StoreS, AndSV, AndVV, OrSV, OrVV, XorSV, XorVV, MergeSV, MergeVV, LeftV, RightV, LeftPairV, RightPairV, SumSV, SumVV, DifferenceSV, DifferenceVV, OnesV, ParityV, MarkZ, MarkN, MarkP, MarkM, LoadV, StoreV}
 use Rattle.machine.specs.Codes.{Code, None, One, Two, codeOf}
 use Rattle.machine.specs.Work.{Done, perform, withParcel, execute, workOf}
-use Rattle.machine.specs.Exchange.{packageOf, save, bits, eight, loadedRegisters, loadedFrame, wordOf, loaded}
+use Rattle.machine.specs.Exchange.{packageOf, save, eight, loadedRegisters, loadedFrame, wordOf, loaded}
 use Rattle.machine.specs.Step.{exchange, finish, finishOf, stepOf}
 use Rattle.machine.specs.Run.{zeros, blankRegisters, blankFrame, startOf, Ended, ended, goesOn, runOf, PairEnded, pairGoesOn, pairOf}
 use Rattle.machine.specs.Refusal.{below, registersFit, frameFits, stateFits, memoryFits, first, stepRefusal}
 use Rattle.access.specs.Layout.{FrameOk}
+use Rattle.access.proofs.Laws.{length-bounds, marks-high}
 use Rattle.laws.proofs.Laws.{RegistersOk, Narrow, work-p, work-ok}
-use Rattle.laws.proofs.Fits.{StateOk, fits-state}
+use Rattle.laws.proofs.Fits.{state-tests, StateOk, fits-state}
 
 -- ---- lists of numbers below n
 
@@ -190,20 +191,7 @@ signed-lt : {x : ℕ} → x < 2 ^ 64 → signed x < 2 ^ 64
 unfolding signed
 signed-lt {x} h = pick-lt (ltb x (2 ^ 23)) h (low _ 64)
 
--- marks of n elements leave the low 64 - n bits clear
-marks-high : (f : ℕ → Bool) (n : ℕ) → n ≤ 64 → marksOf f n + 2 ^ (64 - n) ≤ 2 ^ 64
-unfolding marksOf
-marks-high f zero l = omega arith
-marks-high f (suc n) l =
-    let e : 64 - n ≡ suc (63 - n) = omega arith in
-    let g : 64 - suc n ≡ 63 - n = omega arith in
-    let h : marksOf f n + 2 ^ suc (63 - n) ≤ 2 ^ 64 = rw (← e) (marks-high f n (omega arith)) in
-    rw g (go (f n) h)
-  where
-    go : (t : Bool) → marksOf f n + 2 ^ suc (63 - n) ≤ 2 ^ 64 → marksOf f n + pick t (2 ^ (63 - n)) 0 + 2 ^ (63 - n) ≤ 2 ^ 64
-    go true h = omega arith
-    go false h = omega arith
-
+-- marks fit a word
 marks-lt : (f : ℕ → Bool) (n : ℕ) → n ≤ 64 → marksOf f n < 2 ^ 64
 marks-lt f n l = omega (arith, marks-high f n l, pow-pos (64 - n))
 
@@ -378,10 +366,9 @@ held-ok : (st : State) → Held st → StateOk st
 held-ok st h = fits-state st (h .fits) (h .processor)
 
 held-lists : (st : State) → Held st → ListsOk (st .registers)
-unfolding stateFits registersFit
+unfolding registersFit
 held-lists st h =
-    let state = and-eq-true-iff _ (frameFits (st .frame)) .0 (h .fits) in
-    let most = and-eq-true-iff _ _ .0 (and-eq-true-iff (ltb (st .p .0) (2 ^ 24)) _ .0 (state .0) .1) in
+    let most = and-eq-true-iff _ _ .0 (state-tests st (h .fits) .1) in
     let least = and-eq-true-iff _ _ .0 (most .0) in
     let flags = and-eq-true-iff _ _ .0 (least .0) in
     let xa = and-eq-true-iff _ (below (2 ^ 8) (st .registers .xa ∷ [])) .0 (flags .0) in
@@ -422,21 +409,9 @@ held-allowed len st e h = rw (e, le-ltb 1 (st .frame .processor) (omega (arith, 
 
 -- ---- what a package loads
 
-length-least : (x : ℕ) → 1 ≤ lengthOf x
-unfolding lengthOf
-length-least x = go (x % 64)
-  where
-    go : (y : ℕ) → 1 ≤ pick (eqb y 0) 64 y
-    go zero = omega arith
-    go (suc y) = rw (eqb·suc-zero y) (omega arith)
-
-length-most : (x : ℕ) → lengthOf x < 65
-unfolding lengthOf
-length-most x = pick-lt (eqb (x % 64) 0) (omega arith) (omega arith)
-
 loaded-control : (w : ℕ → ℕ) (r : Registers) → RegistersOk (loadedRegisters w r)
 loaded-control w r =
-    record { narrow = low _ 8; least = length-least _; most = omega (arith, length-most (bits (w 3) 33 7)); interrupt = low _ 1; bidirectional = low _ 1 }
+    record { narrow = low _ 8; least = length-bounds _ .0; most = length-bounds _ .1; interrupt = low _ 1; bidirectional = low _ 1 }
 
 loaded-frame : (w : ℕ → ℕ) (fr : Frame) → fr .processor < 2 → FrameOk (loadedFrame w fr)
 loaded-frame w fr n =

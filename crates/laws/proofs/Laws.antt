@@ -1,12 +1,11 @@
 -- What holds of every instruction, by what instructions ask and not by the instructions. Assumes nothing.
-use Prim.Native.Nat.{ℕ, zero, suc, _%_, _^_, _<_, _≤_}
+use Prim.Native.Nat.{ℕ, zero, suc, _^_, _<_}
 use mathlib.Core.Path.{_≡_, refl, sym, _∙_, ap}
 use mathlib.Core.Bool.{Bool, true, false, _&&_}
 use mathlib.Core.List.{List}
 use native.Mathlib.Omega.{arith}
 use lib.ListN.{length, length-set}
 use lib.Dec.{eqb}
-use borrow.Author.Tests.{eqb-false}
 use Rattle.machine.specs.declared.Frame.{Frame}
 use Rattle.machine.specs.declared.Registers.{Registers}
 use Rattle.machine.specs.declared.State.{State}
@@ -18,7 +17,7 @@ use Rattle.machine.specs.declared.Work.{Work}
 use Rattle.machine.specs.declared.Work.the-variants.{Next, NormalExit, ErrorExit, OperandRange, ProgramRange, Unheld, Unfetched}
 use Rattle.machine.specs.declared.Answer.{Answer}
 use Rattle.machine.specs.declared.Answer.the-variants.{Stepped, Exchanged, NotHeld, MonitorFetch}
-use Rattle.machine.specs.Word.{pick, lengthOf}
+use Rattle.machine.specs.Word.{pick}
 use Rattle.machine.specs.Parcel.{onward}
 use Rattle.machine.specs.State.{user, bit, Put, Nothing, ToA, ToS, ToB, ToT, ToBs, ToTs, ToV, ToElement, ToVL, ToVM, ToIOR, ToBDM, apply}
 use Rattle.machine.specs.Memory.{Field, dataField, placeOf, load, storeAt, store, stores, anyOutside, fetchOf}
@@ -28,6 +27,7 @@ use Rattle.machine.specs.Work.{Done, done, parcel, ranged, perform, noParcel, w
 use Rattle.machine.specs.Step.{out, exchange, finish, finishOf, stepOf}
 use Rattle.machine.specs.Call.{Called, stepCall}
 use Rattle.access.specs.Layout.{ControlOk}
+use Rattle.access.proofs.Laws.{length-bounds}
 
 -- What holds of all that an act performs, of a parcel not held and of a parcel outside, holds of the work of every step.
 module _ (fr : Frame) (r : Registers) (p : ℕ) (mem : List ℕ) (Q : Done → Type 0)
@@ -93,16 +93,6 @@ bit-lt : (b : Bool) → bit b < 2
 bit-lt true = omega arith
 bit-lt false = omega arith
 
-length-of-range : (x : ℕ) → (1 ≤ lengthOf x) × (lengthOf x ≤ 64)
-unfolding lengthOf
-length-of-range x = go (eqb (x % 64) 0) refl
-  where
-    go : (t : Bool) → eqb (x % 64) 0 ≡ t → (1 ≤ pick t 64 (x % 64)) × (pick t 64 (x % 64) ≤ 64)
-    go true e = (omega arith, omega arith)
-    go false e =
-        let n : x % 64 ≡ 0 → ⊥ = eqb-false (x % 64) 0 e in
-        (omega arith, omega arith)
-
 apply-ok : (u : Put) (r : Registers) → RegistersOk r → RegistersOk (apply u r)
 unfolding apply
 apply-ok Nothing r k = k
@@ -117,8 +107,8 @@ apply-ok (ToElement i e x) r k = k
 apply-ok (ToVL x) r k =
     record {
       narrow = k .narrow;
-      least = length-of-range x .0;
-      most = length-of-range x .1;
+      least = length-bounds x .0;
+      most = length-bounds x .1;
       interrupt = k .interrupt;
       bidirectional = k .bidirectional;
     }

@@ -1,6 +1,5 @@
 pub mod Laws
 pub mod Fits
-pub mod Match
 pub mod Wrong
 pub mod Kept
 pub mod Calls

@@ -5,20 +5,16 @@ use mathlib.Core.Bool.{Bool, false, _||_}
 use mathlib.Core.List.{List}
 use native.Mathlib.Omega.{arith}
 use native.Mathlib.Numerals.{add-one}
-use lib.ListN.{length, getD, set, length-set}
+use lib.ListN.{length, getD, set}
 use Rattle.machine.specs.declared.Frame.{Frame}
 use Rattle.machine.specs.declared.Reach.{Reach}
 use Rattle.machine.specs.declared.Place.the-variants.{At}
 use Rattle.machine.specs.State.{fill, ring}
 use Rattle.machine.specs.Memory.{Field, dataField, placeOf, isBeyond, load, store, stores, anyOutside}
 use Rattle.access.specs.Layout.{Reaches}
-use Rattle.access.proofs.Laws.{window-in, reaches-inside}
+use Rattle.access.proofs.Laws.{window-in, reaches-inside, fill-length}
 
--- one element, one register, one word more
-pub fill-turn : (at : ℕ) (f : ℕ → ℕ) (e : ℕ) (v₀ v v′ : List ℕ) (x : ℕ) → v ≡ fill at f e v₀ → v′ ≡ set v (at + e) x → x ≡ f e → v′ ≡ fill at f (e + 1) v₀
-unfolding fill
-fill-turn at f e v₀ v v′ x p q t = rw add-one (rw (q, p, t))
-
+-- one register, one word more
 pub ring-turn : (first : ℕ) (f : ℕ → ℕ) (e : ℕ) (r₀ r r′ : List ℕ) (x : ℕ) → r ≡ ring first f e r₀ → r′ ≡ set r ((first + e) % 64) x → x ≡ f e → r′ ≡ ring first f (e + 1) r₀
 unfolding ring
 ring-turn first f e r₀ r r′ x p q t = rw add-one (rw (q, p, t))
@@ -44,11 +40,6 @@ fill-ring first f g zero r l h = refl
 fill-ring first f g (suc n) r l h =
     let i : (first + n) % 64 ≡ first + n = omega arith in
     rw (i, fill-ring first f g n r (omega arith) (λ e t. h e (omega arith)), h n (omega arith))
-
-fill-long : (at : ℕ) (f : ℕ → ℕ) (n : ℕ) (v : List ℕ) → length (fill at f n v) ≡ length v
-unfolding fill
-fill-long at f zero v = refl
-fill-long at f (suc n) v = length-set (fill at f n v) (at + n) (f n) ∙ fill-long at f n v
 
 -- n addresses whose words lie one after another, all inside, from the place `base` on
 pub record Row (d : Field) (len : ℕ) (at : ℕ → ℕ) (base n : ℕ) : Type 0 where
@@ -82,4 +73,4 @@ row-stores {d} {at} {base} {n} mem row val = go n (omega arith)
   where
     go : (k : ℕ) → k ≤ n → stores d at val k mem ≡ fill base val k mem
     go zero l = refl
-    go (suc k) l = rw (go k (omega arith), fill-long base val k mem, row .placed k (omega arith))
+    go (suc k) l = rw (go k (omega arith), fill-length base val k mem, row .placed k (omega arith))

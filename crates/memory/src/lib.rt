@@ -20,20 +20,6 @@ use machine::Place;
 use machine::Reach;
 use machine::Work;
 
-// The place in the data field of the address whose low 64 bits are n.
-fn locate(f: Reach, n: u64) -> Place
-    requires { ⌜ f .operands ≤ 2 ^ 22 ⌝ }
-    ensures { λ r. ⌜ ((fr : Frame) (len address : ℕ) → Reaches fr f len → n ≡ address % 2 ^ 64 → r ≡ placeOf (dataField fr) len address) ⌝ }
-    ensures { λ r. ⌜ ((len at : ℕ) → Inside f len → r ≡ At at → at < len) ⌝ }
-{
-    let w = access::word_at(n);
-    if w.0 < f.words {
-        Place::At(f.operands + w.0 as usize)
-    } else {
-        Place::Beyond
-    }
-}
-
 // A word, and whether it lies outside the data field, where it is zero.
 struct Got(u64, bool);
 
@@ -42,7 +28,7 @@ fn get(mem: &[u64], f: Reach, n: u64) -> Got
     requires { ⌜ Inside f (length (now mem)) ⌝ }
     ensures { λ g. ⌜ ((fr : Frame) (address : ℕ) → Reaches fr f (length (now (mem .entry))) → n ≡ address % 2 ^ 64 → (g .0 ≡ load (dataField fr) (now (mem .entry)) address) × (g .1 ≡ isBeyond (placeOf (dataField fr) (length (now (mem .entry))) address))) ⌝ }
 {
-    let Place::At(at) = locate(f, n) else {
+    let Place::At(at) = access::locate(f, n) else {
         return Got(0, true);
     };
     Got(mem[at], false)
@@ -53,7 +39,7 @@ fn put(mem: &mut [u64], f: Reach, n: u64, x: u64) -> bool
     requires { ⌜ Inside f (length (now mem)) ⌝ }
     ensures { λ o. ⌜ ((fr : Frame) (address : ℕ) → Reaches fr f (length (now (mem .entry))) → n ≡ address % 2 ^ 64 → (now (mem .exit) ≡ store (dataField fr) (now (mem .entry)) address x) × (o ≡ isBeyond (placeOf (dataField fr) (length (now (mem .entry))) address))) ⌝ }
 {
-    let Place::At(at) = locate(f, n) else {
+    let Place::At(at) = access::locate(f, n) else {
         return true;
     };
     mem[at] = x;
@@ -67,7 +53,7 @@ fn indexed(a: &[u64; 8], f: Reach, x: u64, m: u64) -> Place
     ensures { λ r. ⌜ ((len at : ℕ) → Inside f len → r ≡ At at → at < len) ⌝ }
 {
     let n = std::num::wrapping_add_u64(access::at_h(a, x), access::jkm(x, m));
-    locate(f, n)
+    access::locate(f, n)
 }
 
 // 10h: Ai from memory.

@@ -22,7 +22,9 @@ pub fn left_0(s: &mut [u64; 8], p: ParcelAddr, x: u64) -> Work
 pub fn right_0(s: &mut [u64; 8], p: ParcelAddr, x: u64) -> Work
     ensures { λ w. ⌜ ((fr : Frame) (a b t v k mem : List ℕ) → done w (registers a (now (s .exit)) b t v k) mem ≡ execute fr (registers a (now (s .entry)) b t v k) (p .0) mem (One RightS0) x) ⌝ }
 {
-    s[0] = word::shifted_right(access::at_i(s, x), 64 - x % 64);
+    let jk = x % 64;
+    let count = 64 - jk;
+    s[0] = word::shifted_right(access::at_i(s, x), count);
     access::past(p, 1)
 }
 

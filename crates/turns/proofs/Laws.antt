@@ -1,5 +1,5 @@
 -- A burst and its finish are a turn; a turn of one is a step. Assumes nothing.
-use Prim.Native.Nat.{ℕ, zero, suc, _+_, _-_, _*_, _%_, _^_, _<_, _≤_}
+use Prim.Native.Nat.{ℕ, zero, suc, _+_, _-_, _^_, _<_, _≤_}
 use mathlib.Core.Path.{_≡_, refl, sym, _∙_, ap}
 use mathlib.Core.Bool.{Bool, true, false}
 use mathlib.Core.Logic.{inl, inr}
@@ -32,8 +32,8 @@ use Rattle.turns.specs.Turn.{Burst, burst, onNext, burstOf, onStepped, t
 burst-turn : (fr : Frame) (budget n : ℕ) (p : ParcelAddr) (r : Registers) (mem : List ℕ) → n < budget
     → burstOf fr (budget - n) n p r mem
     ≡ onNext (workOf fr r (p .0) mem .work)
-      (λ q. burstOf fr (budget - (n + 1)) (n + 1) q (workOf fr r (p .0) mem .registers) (workOf fr r (p .0) mem .mem))
-      (λ w. burst p n w (workOf fr r (p .0) mem .registers) (workOf fr r (p .0) mem .mem))
+    (λ q. burstOf fr (budget - (n + 1)) (n + 1) q (workOf fr r (p .0) mem .registers) (workOf fr r (p .0) mem .mem))
+    (λ w. burst p n w (workOf fr r (p .0) mem .registers) (workOf fr r (p .0) mem .mem))
 unfolding burstOf
 burst-turn fr budget n p r mem h = rw (e, add-one n)
   where
@@ -95,8 +95,8 @@ finished fr b = finish (record { p = b .p; registers = b .registers; frame = fr 
 one-more : (fr : Frame) (budget n : ℕ) (p : ParcelAddr) (r r′ : Registers) (mem : List ℕ) (w : Work) → (Idle w → r′ ≡ r)
     → ((q : ParcelAddr) → endOf (burstOf fr budget (suc n) q r′ mem .steps) (finished fr (burstOf fr budget (suc n) q r′ mem)) ≡ turnOf budget (suc n) (record { p = q; registers = r′; frame = fr }) mem)
     → let b : Burst = onNext w (λ q. burstOf fr budget (suc n) q r′ mem) (λ u. burst p n u r′ mem) in
-      let o : Out = finish (record { p = p; registers = r; frame = fr }) w r′ mem in
-      endOf (b .steps) (finished fr b) ≡ onStepped (o .answer) n (turnOf budget (suc n) (o .state) (o .mem)) (λ k. ended (o .answer) k (o .state) (o .mem))
+    let o : Out = finish (record { p = p; registers = r; frame = fr }) w r′ mem in
+    endOf (b .steps) (finished fr b) ≡ onStepped (o .answer) n (turnOf budget (suc n) (o .state) (o .mem)) (λ k. ended (o .answer) k (o .state) (o .mem))
 unfolding finish exchange
 one-more fr budget n p r r′ mem (Next q) i rest = rest q
 one-more fr budget n p r r′ mem (NormalExit q) i rest = refl
@@ -300,7 +300,7 @@ on-ended (MonitorFetch p) rest end h = refl
 -- a step of a pair run is a turn of one
 pair-turn : (n : ℕ) (o : Answer) (st : State) (mem : List ℕ) (rest : State → List ℕ → PairEnded) (end : List Answer → ℕ → State → List ℕ → PairEnded)
     → let e : Ended = onStepped o 0 (ended Stepped 1 st mem) (λ k. ended o k st mem) in
-      pairGoesOn o n (rest st mem) (λ k. end (o ∷ []) k st mem) ≡ onPair (e .last) (rest (e .state) (e .mem)) (end (e .last ∷ []) (n + e .steps) (e .state) (e .mem))
+    pairGoesOn o n (rest st mem) (λ k. end (o ∷ []) k st mem) ≡ onPair (e .last) (rest (e .state) (e .mem)) (end (e .last ∷ []) (n + e .steps) (e .state) (e .mem))
 pair-turn n Stepped st mem rest end = refl
 pair-turn n (Exchanged flags) st mem rest end = let e : suc n ≡ n + 1 = omega arith in rw e
 pair-turn n (NotHeld p) st mem rest end = let e : n ≡ n + 0 = omega arith in ap (λ (k : ℕ). end (NotHeld p ∷ []) k st mem) e
@@ -308,7 +308,7 @@ pair-turn n (MonitorFetch p) st mem rest end = let e : n ≡ n + 0 = omega arith
 
 pair-first : (b : ℕ) (bytes : List ℕ) (l : List Answer) (n : ℕ) (x y : State) (mem : List ℕ) → b ≡ 0
     → let e : Ended = turnOf 1 0 x mem in
-      pairOf (b ∷ bytes) l n x y mem ≡ onPair (e .last) (pairOf bytes (Stepped ∷ []) (suc n) (e .state) y (e .mem)) (pairEnded (e .last ∷ []) (n + e .steps) (e .state) y (e .mem))
+    pairOf (b ∷ bytes) l n x y mem ≡ onPair (e .last) (pairOf bytes (Stepped ∷ []) (suc n) (e .state) y (e .mem)) (pairEnded (e .last ∷ []) (n + e .steps) (e .state) y (e .mem))
 unfolding pairOf turnOf
 pair-first b bytes l n x y mem z =
     let o = stepOf x mem in
@@ -316,7 +316,7 @@ pair-first b bytes l n x y mem z =
 
 pair-second : (b : ℕ) (bytes : List ℕ) (l : List Answer) (n : ℕ) (x y : State) (mem : List ℕ) → (b ≡ 0 → ⊥)
     → let e : Ended = turnOf 1 0 y mem in
-      pairOf (b ∷ bytes) l n x y mem ≡ onPair (e .last) (pairOf bytes (Stepped ∷ []) (suc n) x (e .state) (e .mem)) (pairEnded (e .last ∷ []) (n + e .steps) x (e .state) (e .mem))
+    pairOf (b ∷ bytes) l n x y mem ≡ onPair (e .last) (pairOf bytes (Stepped ∷ []) (suc n) x (e .state) (e .mem)) (pairEnded (e .last ∷ []) (n + e .steps) x (e .state) (e .mem))
 unfolding pairOf turnOf
 pair-second zero bytes l n x y mem z = absurd (z refl)
 pair-second (suc b) bytes l n x y mem z =

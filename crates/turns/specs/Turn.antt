@@ -1,5 +1,5 @@
 -- Steps taken together: a burst ends before the first that does more than step, and a turn finishes that one. Assumes nothing.
-use Prim.Native.Nat.{ℕ, zero, suc, _+_, _^_, _<_, _≤_}
+use Prim.Native.Nat.{ℕ, zero, suc, _+_, _<_, _≤_}
 use mathlib.Core.Path.{_≡_}
 use mathlib.Core.Bool.{Bool, true, false}
 use mathlib.Core.List.{List, [], _∷_}
@@ -13,8 +13,8 @@ use Rattle.machine.specs.declared.Work.the-variants.{Next, NormalExit, ErrorExi
 use Rattle.machine.specs.declared.Answer.{Answer}
 use Rattle.machine.specs.declared.Answer.the-variants.{Stepped, Exchanged, NotHeld, MonitorFetch}
 use Rattle.machine.specs.Word.{pick}
-use Rattle.machine.specs.Work.{Done, parcel, workOf}
-use Rattle.machine.specs.Step.{Out, stepOf}
+use Rattle.machine.specs.Work.{workOf}
+use Rattle.machine.specs.Step.{stepOf}
 use Rattle.machine.specs.Run.{Ended, ended}
 use Rattle.access.specs.Layout.{registers, frame}
 

@@ -6,7 +6,6 @@ ghost use mathlib.Core.Path.{_≡_};
 ghost use mathlib.Core.List.{List};
 ghost use Prim.Native.Nat.{ℕ, _+_, _^_, _<_, _≤_};
 ghost use lib.ListN.{length};
-ghost use Rattle.machine.specs.State.{user};
 ghost use Rattle.machine.specs.declared.Answer.the-variants.{Exchanged};
 ghost use Rattle.machine.specs.Step.{out, inUserMode, exchange, finish};
 ghost use Rattle.machine.specs.Run.{ended};
@@ -61,7 +60,11 @@ pub fn take_burst(
     while n < budget {
         let w = dispatch::work(a, s, b, t, v, k, q, mem, f, p);
         let Work::Next(next) = w else {
-            return Came { p, steps: n, work: w };
+            return Came {
+                p,
+                steps: n,
+                work: w,
+            };
         };
         p = next;
         n += 1;

@@ -7,7 +7,6 @@ ghost use Rattle.machine.specs.Run.{pairOf};
 ghost use Rattle.machine.specs.Call.{pairCalled, pairedTo, lastOf};
 ghost use Rattle.access.specs.Layout.{frame, FrameOk, KOk};
 ghost use Rattle.turns.specs.Turn.{state, soFar, stepped};
-
 use machine::Answer;
 use machine::Last;
 use machine::ParcelAddr;

@@ -5,7 +5,6 @@ ghost use lib.ListN.{length};
 ghost use Rattle.machine.specs.Run.{ended, runOf};
 ghost use Rattle.access.specs.Layout.{frame, FrameOk, KOk};
 ghost use Rattle.turns.specs.Turn.{state};
-
 use crate::Went;
 use machine::Answer;
 use machine::ParcelAddr;

@@ -3,7 +3,7 @@
 ghost use mathlib.Core.Path.{_≡_};
 ghost use mathlib.Core.List.{List, [], _∷_};
 ghost use Prim.Native.Nat.{ℕ, _+_, _-_, _*_, _^_, _<_};
-ghost use lib.ListN.{length, getD, set};
+ghost use lib.ListN.{getD, set};
 ghost use Rattle.machine.specs.declared.Frame.{Frame};
 ghost use Rattle.machine.specs.declared.Work.the-variants.{Next};
 ghost use Rattle.machine.specs.Word.{pick, leftPair, rightPair};
@@ -267,18 +267,12 @@ fn right_pairs(v: &mut [u64; 512], k: &[u64; 5], count: u64, p: ParcelAddr, x: u
     access::past(p, 1)
 }
 
-// No code: the list behind a `&[u64; 5]` has five elements.
-fn five(k: [u64; 5])
-    ensures { λ _. ⌜ length k ≡ 5 ⌝ }
-{}
-
 // 175: VM has a one for each element of Vj that meets the test.
 fn mark_where(v: &[u64; 512], k: &mut [u64; 5], test: Test, p: ParcelAddr, x: u64) -> Work
     requires { ⌜ KOk (now k) ⌝ }
     ensures { λ w. ⌜ ((a s b t vs : List ℕ) → registers a s b t vs (now (k .exit)) ≡ apply (ToVM (marksOf (λ e. testOf test (el (now (v .entry)) (jOf x) e)) (getD (now (k .entry)) 1 0))) (registers a s b t vs (now (k .entry)))) ⌝ }
     ensures { λ w. ⌜ w ≡ Next (parcel (onward (p .0) 1)) ⌝ }
 {
-    five(*k);
     let from = access::j(x);
     let n = k[VL] as usize;
     let mut vm: u64 = 0;
@@ -288,7 +282,7 @@ fn mark_where(v: &[u64; 512], k: &mut [u64; 5], test: Test, p: ParcelAddr, x: u6
         vm += mark_of(test, y, e);
         e += 1;
     }
-    k[VM] = vm;
+    access::set_control(k, VM, vm);
     access::past(p, 1)
 }
 

@@ -1,6 +1,6 @@
 -- What a call that is not refused may count on, and what each call gives. Assumes nothing.
-use Prim.Native.Nat.{ℕ, zero, suc, _+_, _^_, _<_, _≤_}
-use mathlib.Core.Path.{_≡_, refl, sym, _∙_, ap}
+use Prim.Native.Nat.{ℕ, _^_, _<_, _≤_}
+use mathlib.Core.Path.{_≡_, refl}
 use mathlib.Core.Bool.{Bool, true, false, _&&_, not}
 use mathlib.Core.List.{List, [], _∷_}
 use native.Mathlib.Omega.{arith}
@@ -16,9 +16,9 @@ use Rattle.machine.specs.declared.Ending.the-variants as ending
 use Rattle.machine.specs.declared.Last.{Last}
 use Rattle.machine.specs.declared.Last.the-variants as last
 use Rattle.machine.specs.Word.{pick}
-use Rattle.machine.specs.Step.{Out, out, stepOf}
+use Rattle.machine.specs.Step.{out, stepOf}
 use Rattle.machine.specs.Run.{ended, runOf, pairOf, startOf}
-use Rattle.machine.specs.Refusal.{below, memoryFits, stateFits, Check, check, first, startRefusal, stepRefusal, runRefusal, pairRefusal}
+use Rattle.machine.specs.Refusal.{below, memoryFits, stateFits, first, startRefusal, stepRefusal, runRefusal, pairRefusal}
 use Rattle.machine.specs.Call.{startCalled, startCall, blank, called, stepCall, runCalled, endingOf, runCall, pairCalled, pairedTo, pairCall}
 use Rattle.laws.proofs.Fits.{StateOk, fits-state}
 use Rattle.turns.specs.Turn.{state, turnOf}
@@ -72,10 +72,11 @@ pair-allowed len x y schedule e =
     let b = passed 6 (not (below 2 schedule)) _ (λ z. omega (arith, z)) (l .1) in
     let f = passed 7 (not (stateFits x && stateFits y)) _ (λ z. omega (arith, z)) (b .1) in
     let ps = both (eqb (x .frame .processor) 0) (eqb (y .frame .processor) 1) (p .0) in
-    let fs = both (stateFits x) (stateFits y) (f .0) in
-    ( allowed len x (m .0) (omega (arith, eqb-true (x .frame .processor) 0 (ps .0))) (fs .0)
-    , allowed len y (m .0) (omega (arith, eqb-true (y .frame .processor) 1 (ps .1))) (fs .1)
-    , ltb-false 65536 (length schedule) (l .0))
+    let fs = both (stateFits x) (stateFits y) (f .0) in (
+      allowed len x (m .0) (omega (arith, eqb-true (x .frame .processor) 0 (ps .0))) (fs .0),
+      allowed len y (m .0) (omega (arith, eqb-true (y .frame .processor) 1 (ps .1))) (fs .1),
+      ltb-false 65536 (length schedule) (l .0),
+    )
 
 pub start-allowed : (len x n : ℕ) → startRefusal len x n ≡ 0 → (4096 ≤ len) × (x < 256) × (n < 2)
 unfolding startRefusal first

@@ -1,12 +1,9 @@
 // The public functions: a start, a step, a run, a pair run. A state goes in and comes back by value, once for each call;
 // inside, its registers are lent. No caller is relied on: each call refuses by a number of document 01, with all as it was.
 ghost use mathlib.Core.Path.{_≡_};
-ghost use mathlib.Core.List.{List, [], _∷_};
-ghost use Prim.Native.Nat.{ℕ, _+_, _^_, _<_, _≤_};
-ghost use lib.ListN.{length};
-ghost use Rattle.machine.specs.Run.{ended, runOf};
+ghost use mathlib.Core.List.{[], _∷_};
 ghost use Rattle.machine.specs.Call.{startCalled, startCall, called, stepCall, runCalled, runCall, pairCalled, pairCall, saidNumbers, endingNumbers, lastNumbers, endingOf};
-ghost use Rattle.access.specs.Layout.{frame, FrameOk, KOk};
+ghost use Rattle.access.specs.Layout.{frame};
 ghost use Rattle.turns.specs.Turn.{state};
 use machine::Answer;
 use machine::Ending;
@@ -140,7 +137,18 @@ pub fn step(st: State, mem: &mut [u64]) -> Stepped
     let mut k = control_of(r);
     let mut q = frame_of(fr);
     let from = st.p;
-    let went = turns::turn(&mut a, &mut s, &mut b, &mut t, &mut v, &mut k, &mut q, mem, from, 1);
+    let went = turns::turn(
+        &mut a,
+        &mut s,
+        &mut b,
+        &mut t,
+        &mut v,
+        &mut k,
+        &mut q,
+        mem,
+        from,
+        1,
+    );
     let last = went.last;
     let p = went.p;
     let state = state_of(p, a, s, b, t, v, k, q);
@@ -192,7 +200,18 @@ pub fn run(st: State, mem: &mut [u64], budget: u64) -> Ran
     let mut k = control_of(r);
     let mut q = frame_of(fr);
     let from = st.p;
-    let went = turns::run::take_turns(&mut a, &mut s, &mut b, &mut t, &mut v, &mut k, &mut q, mem, from, budget);
+    let went = turns::run::take_turns(
+        &mut a,
+        &mut s,
+        &mut b,
+        &mut t,
+        &mut v,
+        &mut k,
+        &mut q,
+        mem,
+        from,
+        budget,
+    );
     let last = went.last;
     let p = went.p;
     let state = state_of(p, a, s, b, t, v, k, q);
@@ -246,8 +265,24 @@ pub fn pair_run(x: State, y: State, mem: &mut [u64], schedule: &[u8]) -> Paired
     let p = x.p;
     let p1 = y.p;
     let went = turns::pair::take_schedule(
-        &mut a, &mut s, &mut b, &mut t, &mut v, &mut k, &mut q, &mut a1, &mut s1, &mut b1, &mut t1,
-        &mut v1, &mut k1, &mut q1, mem, p, p1, schedule,
+        &mut a,
+        &mut s,
+        &mut b,
+        &mut t,
+        &mut v,
+        &mut k,
+        &mut q,
+        &mut a1,
+        &mut s1,
+        &mut b1,
+        &mut t1,
+        &mut v1,
+        &mut k1,
+        &mut q1,
+        mem,
+        p,
+        p1,
+        schedule,
     );
     let last = went.last;
     let to = went.first;

@@ -4,6 +4,7 @@ use Rattle.machine.specs.Act.{act}
 use Rattle.machine.specs.Work.{perform, execute}
 use native.Mathlib.Omega.{arith}
 use borrow.Author.Needs.{needs}
+use Rattle.access.proofs.Laws.{second}
 use Rattle.address.proofs.enter.Statement.{statement}
 use Rattle.address.proofs.enter.Tie as tie
 
@@ -25,8 +26,8 @@ no-parcel-requires c κs = search needs
 returns : tie.Need-returns
 unfolding execute
 returns c = λ fr s b t v k h.
-    let e = rw (c .before .before .before .before .on .ensures) at (c .before .before .before .fetch .ensures .0 fr h (rw (c .before .before .before .before .on .ensures) (omega arith))) in
-    rw (← e, c .before .enum-told .given .1, c .no-parcel .ensures, h .user)
+    let e = second fr _ _ _ _ (c .before .before .before .before .on .ensures) (c .before .before .before .fetch .ensures .0 fr h) in
+    rw (e, c .before .enum-told .given .1, c .no-parcel .ensures, h .user)
 
 jkm-requires : tie.Need-jkm-requires
 jkm-requires c κs = c .before .before .before .fetch .ensures .1 _ (c .before .m .given .1)
@@ -49,8 +50,8 @@ past-requires c κs = search needs
 returns-2 : tie.Need-returns-2
 unfolding execute perform act apply
 returns-2 c = λ fr s b t v k h.
-    let e = rw (c .before .before .before .before .before .before .before .before .on .ensures) at (c .before .before .before .before .before .before .before .fetch .ensures .0 fr h (rw (c .before .before .before .before .before .before .before .before .on .ensures) (omega arith))) in
-    rw (← e, c .before .before .before .before .before .m .given .1, c .past .ensures, c .before .before .i .ensures)
+    let e = second fr _ _ _ _ (c .before .before .before .before .before .before .before .before .on .ensures) (c .before .before .before .before .before .before .before .fetch .ensures .0 fr h) in
+    rw (e, c .before .before .before .before .before .m .given .1, c .past .ensures, c .before .before .i .ensures)
     (⊎-elim (λ w. rw (w .0 .taken, w .1, c .before .before .before .jkm .ensures)) (λ w. rw (w .0 .left, w .1, c .before .before .before .jkm .ensures)) (c .before .if1 .came))
 
 pub enter-spec : {M : Type 1} → statement M

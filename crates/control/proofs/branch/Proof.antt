@@ -3,7 +3,8 @@ use mathlib.Core.Path.{_∙_}
 use Rattle.machine.specs.State.{apply}
 use Rattle.machine.specs.Act.{act}
 use Rattle.machine.specs.Work.{perform, execute}
-use Rattle.control.proofs.Laws.{second, no-second}
+use Rattle.access.proofs.Laws.{second}
+use Rattle.control.proofs.Laws.{no-second}
 use borrow.Author.Needs.{needs}
 use Rattle.control.proofs.branch.Statement.{statement}
 use Rattle.control.proofs.branch.Tie as tie

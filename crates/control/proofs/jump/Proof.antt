@@ -2,7 +2,7 @@ use borrow.Author.Tests.{lt-ltb, le-ltb}
 use Rattle.machine.specs.State.{apply}
 use Rattle.machine.specs.Act.{act}
 use Rattle.machine.specs.Work.{perform, execute}
-use Rattle.control.proofs.Laws.{second}
+use Rattle.access.proofs.Laws.{second}
 use borrow.Author.Needs.{needs}
 use Rattle.control.proofs.jump.Statement.{statement}
 use Rattle.control.proofs.jump.Tie as tie

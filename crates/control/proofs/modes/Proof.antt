@@ -24,12 +24,12 @@ a-k-requires c κs = search needs
 vector-length-requires : tie.Need-vector-length-requires
 vector-length-requires c κs = search needs
 
-set-control-requires : tie.Need-set-control-requires
-set-control-requires c κs = search needs
+set-register-requires : tie.Need-set-register-requires
+set-register-requires c κs = search needs
 
 returns-2 : tie.Need-returns-2
 unfolding code002 act perform execute apply
-returns-2 c = λ fr s b t v mem. rw (← c .before .before .before .before .before .before .before .j .ensures, c .before .before .before .before .before .before .if1 .left, ← c .before .before .before .before .before .i .ensures, c .before .before .before .before .if2 .taken, c .set-control .ensures .0 _ s b t v, c .set-control .ensures .1, c .before .vector-length .ensures, c .before .before .a-k .ensures)
+returns-2 c = λ fr s b t v mem. rw (← c .before .before .before .before .before .before .before .j .ensures, c .before .before .before .before .before .before .if1 .left, ← c .before .before .before .before .before .i .ensures, c .before .before .before .before .if2 .taken, c .set-register .ensures .0 _ s b t v, c .set-register .ensures .1, c .before .vector-length .ensures, c .before .before .a-k .ensures)
 
 k-requires : tie.Need-k-requires
 k-requires c κs = search needs
@@ -38,36 +38,36 @@ returns-3 : tie.Need-returns-3
 unfolding code002 execute
 returns-3 c = λ fr s b t v mem. rw (← c .before .before .before .before .before .j .ensures, c .before .before .before .before .if1 .left, ← c .before .before .before .i .ensures, ← c .before .k .ensures) (simp (ne-eqb _ _ (c .before .before .if2 .left), ne-eqb _ _ (c .if3 .taken)))
 
-set-control-requires-2 : tie.Need-set-control-requires-2
-set-control-requires-2 c κs = search needs
+set-register-requires-2 : tie.Need-set-register-requires-2
+set-register-requires-2 c κs = search needs
 
-set-control-requires-3 : tie.Need-set-control-requires-3
-set-control-requires-3 c κs = search needs
+set-register-requires-3 : tie.Need-set-register-requires-3
+set-register-requires-3 c κs = search needs
 
-set-control-requires-4 : tie.Need-set-control-requires-4
-set-control-requires-4 c κs = search needs
+set-register-requires-4 : tie.Need-set-register-requires-4
+set-register-requires-4 c κs = search needs
 
-set-control-requires-5 : tie.Need-set-control-requires-5
-set-control-requires-5 c κs = search needs
+set-register-requires-5 : tie.Need-set-register-requires-5
+set-register-requires-5 c κs = search needs
 
 past-requires : tie.Need-past-requires
 past-requires c κs = search needs
 
 returns-4 : tie.Need-returns-4
 unfolding code002 act perform execute apply
-returns-4 c = λ fr s b t v mem. rw (← c .before .before .before .before .before .before .before .before .j .ensures, c .before .before .before .before .before .before .before .if1 .left, ← c .before .before .before .before .before .before .i .ensures, c .before .before .match .keys1, ← c .before .before .before .before .k .ensures, c .before .before .before .if3 .left, c .set-control2 .ensures .0 _ s b t v, c .set-control2 .ensures .1)
+returns-4 c = λ fr s b t v mem. rw (← c .before .before .before .before .before .before .before .before .j .ensures, c .before .before .before .before .before .before .before .if1 .left, ← c .before .before .before .before .before .before .i .ensures, c .before .before .match .keys1, ← c .before .before .before .before .k .ensures, c .before .before .before .if3 .left, c .set-register2 .ensures .0 _ s b t v, c .set-register2 .ensures .1)
 
 returns-5 : tie.Need-returns-5
 unfolding code002 act perform execute apply
-returns-5 c = λ fr s b t v mem. rw (← c .before .before .before .before .before .before .before .before .j .ensures, c .before .before .before .before .before .before .before .if1 .left, ← c .before .before .before .before .before .before .i .ensures, c .before .before .match .keys2, ← c .before .before .before .before .k .ensures, c .before .before .before .if3 .left, c .set-control3 .ensures .0 _ s b t v, c .set-control3 .ensures .1)
+returns-5 c = λ fr s b t v mem. rw (← c .before .before .before .before .before .before .before .before .j .ensures, c .before .before .before .before .before .before .before .if1 .left, ← c .before .before .before .before .before .before .i .ensures, c .before .before .match .keys2, ← c .before .before .before .before .k .ensures, c .before .before .before .if3 .left, c .set-register3 .ensures .0 _ s b t v, c .set-register3 .ensures .1)
 
 returns-6 : tie.Need-returns-6
 unfolding code002 act perform execute apply
-returns-6 c = λ fr s b t v mem. rw (← c .before .before .before .before .before .before .before .before .j .ensures, c .before .before .before .before .before .before .before .if1 .left, ← c .before .before .before .before .before .before .i .ensures, c .before .before .match .keys3, ← c .before .before .before .before .k .ensures, c .before .before .before .if3 .left, c .set-control4 .ensures .0 _ s b t v, c .set-control4 .ensures .1)
+returns-6 c = λ fr s b t v mem. rw (← c .before .before .before .before .before .before .before .before .j .ensures, c .before .before .before .before .before .before .before .if1 .left, ← c .before .before .before .before .before .before .i .ensures, c .before .before .match .keys3, ← c .before .before .before .before .k .ensures, c .before .before .before .if3 .left, c .set-register4 .ensures .0 _ s b t v, c .set-register4 .ensures .1)
 
 returns-7 : tie.Need-returns-7
 unfolding code002 act perform execute apply
-returns-7 c = λ fr s b t v mem. rw (← c .before .before .before .before .before .before .before .before .j .ensures, c .before .before .before .before .before .before .before .if1 .left, ← c .before .before .before .before .before .before .i .ensures, c .before .before .match .keys4, ← c .before .before .before .before .k .ensures, c .before .before .before .if3 .left, c .set-control5 .ensures .0 _ s b t v, c .set-control5 .ensures .1)
+returns-7 c = λ fr s b t v mem. rw (← c .before .before .before .before .before .before .before .before .j .ensures, c .before .before .before .before .before .before .before .if1 .left, ← c .before .before .before .before .before .before .i .ensures, c .before .before .match .keys4, ← c .before .before .before .before .k .ensures, c .before .before .before .if3 .left, c .set-register5 .ensures .0 _ s b t v, c .set-register5 .ensures .1)
 
 returns-8 : tie.Need-returns-8
 unfolding code002 act perform execute apply
@@ -86,14 +86,14 @@ modes-spec =
     i-requires
     a-k-requires
     vector-length-requires
-    set-control-requires
+    set-register-requires
     returns-2
     k-requires
     returns-3
-    set-control-requires-2
-    set-control-requires-3
-    set-control-requires-4
-    set-control-requires-5
+    set-register-requires-2
+    set-register-requires-3
+    set-register-requires-4
+    set-register-requires-5
     past-requires
     returns-4
     returns-5

@@ -41,12 +41,12 @@ returns-4 c = λ fr len s b t v mem h. rw (← c .before .before .before .before
 at-j-requires : tie.Need-at-j-requires
 at-j-requires c κs = search needs
 
-set-control-requires : tie.Need-set-control-requires
-set-control-requires c κs = search needs
+set-register-requires : tie.Need-set-register-requires
+set-register-requires c κs = search needs
 
 returns-5 : tie.Need-returns-5
 unfolding code001 act perform execute
-returns-5 c = λ fr len s b t v mem h. rw (← c .before .before .before .before .before .before .before .i .ensures, c .before .before .before .before .before .before .if1 .left, ← c .before .before .before .before .before .k .ensures, c .before .before .before .before .if3 .left, ← h .user, c .before .before .before .if4 .left, c .set-control .ensures .0 _ s b t v, c .set-control .ensures .1, c .before .at-j .ensures)
+returns-5 c = λ fr len s b t v mem h. rw (← c .before .before .before .before .before .before .before .i .ensures, c .before .before .before .before .before .before .if1 .left, ← c .before .before .before .before .before .k .ensures, c .before .before .before .before .if3 .left, ← h .user, c .before .before .before .if4 .left, c .set-register .ensures .0 _ s b t v, c .set-register .ensures .1, c .before .at-j .ensures)
 
 pub privileged-spec : {M : Type 1} → statement M
 privileged-spec =
@@ -62,5 +62,5 @@ privileged-spec =
     past-requires-2
     returns-4
     at-j-requires
-    set-control-requires
+    set-register-requires
     returns-5)

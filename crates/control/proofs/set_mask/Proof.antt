@@ -16,12 +16,12 @@ k-requires c κs = search needs
 at-j-requires : tie.Need-at-j-requires
 at-j-requires c κs = search needs
 
-set-control-requires : tie.Need-set-control-requires
-set-control-requires c κs = search needs
+set-register-requires : tie.Need-set-register-requires
+set-register-requires c κs = search needs
 
 returns : tie.Need-returns
 unfolding act perform execute apply
-returns c = λ fr a b t v mem. rw (← c .before .before .before .before .before .before .i .ensures, ← c .before .before .before .before .k .ensures, c .before .before .before .before .before .if1 .taken, c .before .before .before .if2 .taken, c .set-control .ensures .0 a _ b t v, c .set-control .ensures .1, c .before .at-j .ensures)
+returns c = λ fr a b t v mem. rw (← c .before .before .before .before .before .before .i .ensures, ← c .before .before .before .before .k .ensures, c .before .before .before .before .before .if1 .taken, c .before .before .before .if2 .taken, c .set-register .ensures .0 a _ b t v, c .set-register .ensures .1, c .before .at-j .ensures)
 
 returns-2 : tie.Need-returns-2
 unfolding execute
@@ -29,4 +29,4 @@ returns-2 c = λ fr a b t v mem. ⊎-elim (λ w. rw (← c .before .i .ensures, 
 
 pub set-mask-spec : {M : Type 1} → statement M
 set-mask-spec =
-    tie.close (tie.spec i-requires k-requires at-j-requires set-control-requires returns returns-2)
+    tie.close (tie.spec i-requires k-requires at-j-requires set-register-requires returns returns-2)

@@ -3,7 +3,6 @@ use mathlib.Core.Path.{_≡_, ap}
 use Rattle.machine.specs.Parcel.{ijkmOf}
 use Rattle.machine.specs.Work.{parcel}
 use Rattle.machine.specs.declared.Work.the-variants.{Next}
-use mathlib.Core.Path.{ap}
 use native.Mathlib.Omega.{arith}
 use borrow.Author.Needs.{needs}
 use Rattle.control.proofs.to.Statement.{statement}

@@ -1,191 +1,134 @@
 use Rattle.machine.specs.Codes.{codeOf}
-use Rattle.machine.specs.Work.{execute}
-use Rattle.laws.proofs.Match.{none-in}
+use Rattle.access.proofs.Match.{none-in}
 use native.Mathlib.Omega.{arith}
 use borrow.Author.Needs.{needs}
 use Rattle.dispatch.proofs.from_040.Statement.{statement}
 use Rattle.dispatch.proofs.from_040.Tie as tie
-use Rattle.dispatch.proofs.from_040.Reads as reads
-use Rattle.dispatch.proofs.from_040.Lts as lts
-use Rattle.dispatch.proofs.from_060.Reads as from-060-reads
-use Rattle.scalar.proofs.complement.Reads as complement-reads
-use Rattle.scalar.proofs.constant.Reads as constant-reads
-use Rattle.scalar.proofs.logic.and.Reads as and-reads
-use Rattle.scalar.proofs.logic.and_not.Reads as and-not-reads
-use Rattle.scalar.proofs.logic.eqv.Reads as eqv-reads
-use Rattle.scalar.proofs.logic.merge.Reads as merge-reads
-use Rattle.scalar.proofs.logic.or.Reads as or-reads
-use Rattle.scalar.proofs.logic.xor.Reads as xor-reads
-use Rattle.scalar.proofs.ones_left.Reads as ones-left-reads
-use Rattle.scalar.proofs.ones_right.Reads as ones-right-reads
-use Rattle.scalar.proofs.shift.left.Reads as left-reads
-use Rattle.scalar.proofs.shift.left_0.Reads as left-0-reads
-use Rattle.scalar.proofs.shift.left_pair.Reads as left-pair-reads
-use Rattle.scalar.proofs.shift.right.Reads as right-reads
-use Rattle.scalar.proofs.shift.right_0.Reads as right-0-reads
-use Rattle.scalar.proofs.shift.right_pair.Reads as right-pair-reads
 
--- src/lib.rt:137:18
 constant-requires : tie.Need-constant-requires
 constant-requires c κs = search needs
 
--- src/lib.rt:138:18
 complement-requires : tie.Need-complement-requires
 complement-requires c κs = search needs
 
--- src/lib.rt:139:18
 ones-right-requires : tie.Need-ones-right-requires
 ones-right-requires c κs = search needs
 
--- src/lib.rt:140:18
 ones-left-requires : tie.Need-ones-left-requires
 ones-left-requires c κs = search needs
 
--- src/lib.rt:141:18
 and-requires : tie.Need-and-requires
 and-requires c κs = search needs
 
--- src/lib.rt:142:18
 and-not-requires : tie.Need-and-not-requires
 and-not-requires c κs = search needs
 
--- src/lib.rt:143:18
 xor-requires : tie.Need-xor-requires
 xor-requires c κs = search needs
 
--- src/lib.rt:144:18
 eqv-requires : tie.Need-eqv-requires
 eqv-requires c κs = search needs
 
--- src/lib.rt:145:18
 merge-requires : tie.Need-merge-requires
 merge-requires c κs = search needs
 
--- src/lib.rt:146:18
 or-requires : tie.Need-or-requires
 or-requires c κs = search needs
 
--- src/lib.rt:147:18
 left-0-requires : tie.Need-left-0-requires
 left-0-requires c κs = search needs
 
--- src/lib.rt:148:18
 right-0-requires : tie.Need-right-0-requires
 right-0-requires c κs = search needs
 
--- src/lib.rt:149:18
 left-requires : tie.Need-left-requires
 left-requires c κs = search needs
 
--- src/lib.rt:150:18
 right-requires : tie.Need-right-requires
 right-requires c κs = search needs
 
--- src/lib.rt:151:18
 left-pair-requires : tie.Need-left-pair-requires
 left-pair-requires c κs = search needs
 
--- src/lib.rt:152:18
 right-pair-requires : tie.Need-right-pair-requires
 right-pair-requires c κs = search needs
 
--- src/lib.rt:153:14
 from-060-requires : tie.Need-from-060-requires
 from-060-requires c κs = (c .before .before .before .before .before .before .before .before .pre .0, (c .before .before .before .before .before .before .before .before .pre .1 .0, (c .before .before .before .before .before .before .before .before .pre .1 .1 .0, none-in _ 32 16 (omega arith) (c .before .before .before .before .before .before .match .rest))))
 
--- src/lib.rt:117:1
 same-length : tie.Need-same-length
 same-length c = search needs
 
--- src/lib.rt:117:1
 returns : tie.Need-returns
 unfolding codeOf
 returns c = λ b h. rw (c .before .before .before .match .keys1) (c .constant .ensures _ _ _ _ _ (c .before .before .before .before .before .args .k .now) h)
 
--- src/lib.rt:117:1
 same-length-2 : tie.Need-same-length-2
 same-length-2 c = search needs
 
--- src/lib.rt:117:1
 returns-2 : tie.Need-returns-2
 unfolding codeOf
 returns-2 c = λ b h. rw (c .before .before .before .match .keys2) (c .complement .ensures _ _ _ _ _ (c .before .before .before .before .before .args .k .now) h)
 
--- src/lib.rt:117:1
 returns-3 : tie.Need-returns-3
 unfolding codeOf
 returns-3 c = λ b h. rw (c .before .before .match .keys3) (c .ones-right .ensures _ _ _ _ _ (c .before .before .before .before .args .k .now) _)
 
--- src/lib.rt:117:1
 returns-4 : tie.Need-returns-4
 unfolding codeOf
 returns-4 c = λ b h. rw (c .before .before .match .keys4) (c .ones-left .ensures _ _ _ _ _ (c .before .before .before .before .args .k .now) _)
 
--- src/lib.rt:117:1
 returns-5 : tie.Need-returns-5
 unfolding codeOf
 returns-5 c = λ b h. rw (c .before .before .match .keys5) (c .and .ensures _ _ _ _ _ (c .before .before .before .before .args .k .now) _)
 
--- src/lib.rt:117:1
 returns-6 : tie.Need-returns-6
 unfolding codeOf
 returns-6 c = λ b h. rw (c .before .before .match .keys6) (c .and-not .ensures _ _ _ _ _ (c .before .before .before .before .args .k .now) _)
 
--- src/lib.rt:117:1
 returns-7 : tie.Need-returns-7
 unfolding codeOf
 returns-7 c = λ b h. rw (c .before .before .match .keys7) (c .xor .ensures _ _ _ _ _ (c .before .before .before .before .args .k .now) _)
 
--- src/lib.rt:117:1
 returns-8 : tie.Need-returns-8
 unfolding codeOf
 returns-8 c = λ b h. rw (c .before .before .match .keys8) (c .eqv .ensures _ _ _ _ _ (c .before .before .before .before .args .k .now) _)
 
--- src/lib.rt:117:1
 returns-9 : tie.Need-returns-9
 unfolding codeOf
 returns-9 c = λ b h. rw (c .before .before .match .keys9) (c .merge .ensures _ _ _ _ _ (c .before .before .before .before .args .k .now) _)
 
--- src/lib.rt:117:1
 returns-10 : tie.Need-returns-10
 unfolding codeOf
 returns-10 c = λ b h. rw (c .before .before .match .keys10) (c .or .ensures _ _ _ _ _ (c .before .before .before .before .args .k .now) _)
 
--- src/lib.rt:117:1
 returns-11 : tie.Need-returns-11
 unfolding codeOf
 returns-11 c = λ b h. rw (c .before .before .match .keys11) (c .left-0 .ensures _ _ _ _ _ (c .before .before .before .before .args .k .now) _)
 
--- src/lib.rt:117:1
 returns-12 : tie.Need-returns-12
 unfolding codeOf
 returns-12 c = λ b h. rw (c .before .before .match .keys12) (c .right-0 .ensures _ _ _ _ _ (c .before .before .before .before .args .k .now) _)
 
--- src/lib.rt:117:1
 returns-13 : tie.Need-returns-13
 unfolding codeOf
 returns-13 c = λ b h. rw (c .before .before .match .keys13) (c .left .ensures _ _ _ _ _ (c .before .before .before .before .args .k .now) _)
 
--- src/lib.rt:117:1
 returns-14 : tie.Need-returns-14
 unfolding codeOf
 returns-14 c = λ b h. rw (c .before .before .match .keys14) (c .right .ensures _ _ _ _ _ (c .before .before .before .before .args .k .now) _)
 
--- src/lib.rt:117:1
 returns-15 : tie.Need-returns-15
 unfolding codeOf
 returns-15 c = λ b h. rw (c .before .before .before .match .keys15) (c .left-pair .ensures _ _ _ _ (c .before .before .before .before .before .args .k .now) _)
 
--- src/lib.rt:117:1
 returns-16 : tie.Need-returns-16
 unfolding codeOf
 returns-16 c = λ b h. rw (c .before .before .before .match .keys16) (c .right-pair .ensures _ _ _ _ (c .before .before .before .before .before .args .k .now) _)
 
--- src/lib.rt:117:1
 same-length-3 : tie.Need-same-length-3
 same-length-3 c = search needs
 
--- src/lib.rt:117:1
 returns-17 : tie.Need-returns-17
 returns-17 c = λ b h. c .before .before .from-060 .ensures b h
 

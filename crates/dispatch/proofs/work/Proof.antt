@@ -1,48 +1,33 @@
 use Rattle.machine.specs.Work.{workOf}
-use native.Mathlib.Omega.{arith}
 use borrow.Author.Needs.{needs}
 use Rattle.dispatch.proofs.work.Statement.{statement}
 use Rattle.dispatch.proofs.work.Tie as tie
-use Rattle.dispatch.proofs.work.Reads as reads
-use Rattle.dispatch.proofs.work.Lts as lts
-use Rattle.access.proofs.fetch.Reads as fetch-reads
-use Rattle.access.proofs.no_parcel.Reads as no-parcel-reads
-use Rattle.dispatch.proofs.from_000.Reads as from-000-reads
 
--- src/lib.rt:259:30
 fetch-requires : tie.Need-fetch-requires
 fetch-requires c κs = search needs
 
--- src/lib.rt:259:25
 enum-known-x : tie.Need-enum-known-x
 enum-known-x c = search needs
 
--- src/lib.rt:260:9
 enum-told : tie.Need-enum-told
 enum-told c = search needs
 
--- src/lib.rt:260:9
 no-parcel-requires : tie.Need-no-parcel-requires
 no-parcel-requires c κs = search needs
 
--- src/lib.rt:260:9
 same-length : tie.Need-same-length
 same-length c = search needs
 
--- src/lib.rt:260:9
 returns : tie.Need-returns
 unfolding workOf
 returns c = λ h. rw (← c .before .before .before .fetch .ensures .0 _ h (c .before .before .before .before .before .before .pre .1 .1 .1), c .before .enum-told .given .1, c .no-parcel .ensures, h .user)
 
--- src/lib.rt:262:5
 from-000-requires : tie.Need-from-000-requires
 from-000-requires c κs = (c .before .before .before .before .before .before .before .before .before .before .before .before .before .pre .0, (c .before .before .before .before .before .before .before .before .before .before .before .before .before .pre .1 .0, c .before .before .before .before .before .before .before .before .before .before .before .before .before .pre .1 .1 .0))
 
--- src/lib.rt:241:1
 same-length-2 : tie.Need-same-length-2
 same-length-2 c = search needs
 
--- src/lib.rt:241:1
 returns-2 : tie.Need-returns-2
 unfolding workOf
 returns-2 c = λ h. rw (← c .before .before .before .before .before .before .before .before .before .before .before .before .before .fetch .ensures .0 _ h (c .before .before .before .before .before .before .before .before .before .before .before .before .before .before .before .before .pre .1 .1 .1), c .before .before .before .before .before .before .before .before .before .before .before .x .given .1) (c .before .before .from-000 .ensures h)

@@ -1,6 +1,6 @@
 use native.Mathlib.Omega.{arith}
 use borrow.Author.Needs.{needs}
-use Rattle.exchange.proofs.Laws.{length-bounds}
+use Rattle.access.proofs.Laws.{length-bounds}
 use Rattle.exchange.proofs.load_registers.Statement.{statement}
 use Rattle.exchange.proofs.load_registers.Tie as tie
 

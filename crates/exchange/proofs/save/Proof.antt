@@ -5,7 +5,7 @@ use borrow.Author.Needs.{needs}
 use lib.ListN.{length, getD, length-set}
 use Rattle.machine.specs.State.{fill}
 use Rattle.machine.specs.Exchange.{save}
-use Rattle.exchange.proofs.Laws.{fill-turn}
+use Rattle.access.proofs.Laws.{fill-turn}
 use Rattle.exchange.proofs.save.Statement.{statement}
 use Rattle.exchange.proofs.save.Tie as tie
 
@@ -49,7 +49,7 @@ loop-less c = search needs
 
 loop-again : tie.Need-loop-again Inv-loop μ-loop
 loop-again c =
-    let l = c .before .loop in (search needs, simp length-set (l .inv .1), fill-turn _ _ (l .n) _ _ (l .inv .2))
+    let l = c .before .loop in (search needs, simp length-set (l .inv .1), fill-turn _ _ (l .n) _ _ _ _ (l .inv .2) refl refl)
 
 same-length : tie.Need-same-length Inv-loop μ-loop
 same-length c = search needs

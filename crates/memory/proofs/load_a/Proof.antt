@@ -4,6 +4,7 @@ use Rattle.machine.specs.State.{apply}
 use Rattle.machine.specs.Memory.{load, anyOutside}
 use Rattle.machine.specs.Act.{act}
 use Rattle.machine.specs.Work.{ranged, perform, execute}
+use Rattle.access.proofs.Laws.{second}
 use Rattle.memory.proofs.load_a.Statement.{statement}
 use Rattle.memory.proofs.load_a.Tie as tie
 
@@ -25,9 +26,8 @@ no-parcel-requires c κs = search needs
 returns : tie.Need-returns
 unfolding execute
 returns c = λ fr s b t v h.
-    let on = c .before .before .before .before .on .ensures in
-    let e = rw on at (c .before .before .before .fetch .ensures .0 fr h (rw on (omega arith))) in
-    rw (← e, c .before .enum-told .given .1, c .no-parcel .ensures, h .user)
+    let e = second fr _ _ _ _ (c .before .before .before .before .on .ensures) (c .before .before .before .fetch .ensures .0 fr h) in
+    rw (e, c .before .enum-told .given .1, c .no-parcel .ensures, h .user)
 
 i-requires : tie.Need-i-requires
 i-requires c κs = search needs
@@ -56,10 +56,9 @@ out-of-range-requires c κs = search needs
 returns-2 : tie.Need-returns-2
 unfolding execute perform act apply anyOutside load
 returns-2 c = λ fr s b t v h.
-    let on = c .before .before .before .before .before .before .before .before .before .before .before .on .ensures in
-    let e = rw on at (c .before .before .before .before .before .before .before .before .before .before .fetch .ensures .0 fr h (rw on (omega arith))) in
+    let e = second fr _ _ _ _ (c .before .before .before .before .before .before .before .before .before .before .before .on .ensures) (c .before .before .before .before .before .before .before .before .before .before .fetch .ensures .0 fr h) in
     let q = c .before .before .before .before .indexed .ensures .0 fr _ h in
-    rw (← e, c .before .before .before .before .before .before .before .before .m .given .1, ← q, c .before .before .enum-told2 .given .1, c .out-of-range .ensures, c .before .on2 .ensures, c .before .before .before .before .before .before .i .ensures, h .user)
+    rw (e, c .before .before .before .before .before .before .before .before .m .given .1, ← q, c .before .before .enum-told2 .given .1, c .out-of-range .ensures, c .before .on2 .ensures, c .before .before .before .before .before .before .i .ensures, h .user)
 
 mul-a-2 : tie.Need-mul-a-2
 mul-a-2 c = omega (arith, c .before .before .before .indexed .ensures .1 _ _ (c .before .before .before .before .before .before .before .before .before .before .before .before .pre) (c .before .at .given .1), c .before .before .before .before .before .before .before .before .before .before .before .before .good)
@@ -79,10 +78,9 @@ past-requires c κs = search needs
 returns-3 : tie.Need-returns-3
 unfolding execute perform act apply anyOutside load ranged
 returns-3 c = λ fr s b t v h.
-    let on = c .before .before .before .before .before .before .before .before .before .before .before .before .on .ensures in
-    let e = rw on at (c .before .before .before .before .before .before .before .before .before .before .before .fetch .ensures .0 fr h (rw on (omega arith))) in
+    let e = second fr _ _ _ _ (c .before .before .before .before .before .before .before .before .before .before .before .before .on .ensures) (c .before .before .before .before .before .before .before .before .before .before .before .fetch .ensures .0 fr h) in
     let q = c .before .before .before .before .before .indexed .ensures .0 fr _ h in
-    rw (← e, c .before .before .before .before .before .before .before .before .before .m .given .1, ← q, c .before .before .before .at .given .1, c .past .ensures, c .before .before .before .before .before .before .before .i .ensures)
+    rw (e, c .before .before .before .before .before .before .before .before .before .m .given .1, ← q, c .before .before .before .at .given .1, c .past .ensures, c .before .before .before .before .before .before .before .i .ensures)
 
 pub load-a-spec : {M : Type 1} → statement M
 load-a-spec =

@@ -3,6 +3,7 @@ use borrow.Author.Needs.{needs}
 use Rattle.machine.specs.Memory.{store, stores, anyOutside}
 use Rattle.machine.specs.Act.{act}
 use Rattle.machine.specs.Work.{ranged, perform, execute}
+use Rattle.access.proofs.Laws.{second}
 use Rattle.memory.proofs.store_a.Statement.{statement}
 use Rattle.memory.proofs.store_a.Tie as tie
 
@@ -27,9 +28,8 @@ same-length c = search needs
 returns : tie.Need-returns
 unfolding execute
 returns c = λ fr s b t v h.
-    let on = c .before .before .before .before .on .ensures in
-    let e = rw on at (c .before .before .before .fetch .ensures .0 fr h (rw on (omega arith))) in
-    rw (← e, c .before .enum-told .given .1, c .no-parcel .ensures, h .user)
+    let e = second fr _ _ _ _ (c .before .before .before .before .on .ensures) (c .before .before .before .fetch .ensures .0 fr h) in
+    rw (e, c .before .enum-told .given .1, c .no-parcel .ensures, h .user)
 
 indexed-requires : tie.Need-indexed-requires
 indexed-requires c κs = (c .before .before .before .before .before .before .before .pre .low, c .before .before .before .fetch .ensures .1 _ (c .before .m .given .1))
@@ -52,10 +52,9 @@ same-length-2 c = search needs
 returns-2 : tie.Need-returns-2
 unfolding execute perform act anyOutside stores store
 returns-2 c = λ fr s b t v h.
-    let on = c .before .before .before .before .before .before .before .before .before .on .ensures in
-    let e = rw on at (c .before .before .before .before .before .before .before .before .fetch .ensures .0 fr h (rw on (omega arith))) in
+    let e = second fr _ _ _ _ (c .before .before .before .before .before .before .before .before .before .on .ensures) (c .before .before .before .before .before .before .before .before .fetch .ensures .0 fr h) in
     let q = c .before .before .before .before .indexed .ensures .0 fr _ h in
-    rw (← e, c .before .before .before .before .before .before .m .given .1, ← q, c .before .before .enum-told2 .given .1, c .out-of-range .ensures, c .before .on2 .ensures, h .user)
+    rw (e, c .before .before .before .before .before .before .m .given .1, ← q, c .before .before .enum-told2 .given .1, c .out-of-range .ensures, c .before .on2 .ensures, h .user)
 
 at-i-requires : tie.Need-at-i-requires
 at-i-requires c κs = search needs
@@ -75,10 +74,9 @@ same-length-3 c = search needs
 returns-3 : tie.Need-returns-3
 unfolding execute perform act anyOutside stores store ranged
 returns-3 c = λ fr s b t v h.
-    let on = c .before .before .before .before .before .before .before .before .before .before .on .ensures in
-    let e = rw on at (c .before .before .before .before .before .before .before .before .before .fetch .ensures .0 fr h (rw on (omega arith))) in
+    let e = second fr _ _ _ _ (c .before .before .before .before .before .before .before .before .before .before .on .ensures) (c .before .before .before .before .before .before .before .before .before .fetch .ensures .0 fr h) in
     let q = c .before .before .before .before .before .indexed .ensures .0 fr _ h in
-    rw (← e, c .before .before .before .before .before .before .before .m .given .1, ← q, c .before .before .before .at .given .1, c .past .ensures, c .before .at-i .ensures)
+    rw (e, c .before .before .before .before .before .before .before .m .given .1, ← q, c .before .before .before .at .given .1, c .past .ensures, c .before .at-i .ensures)
 
 pub store-a-spec : {M : Type 1} → statement M
 store-a-spec =

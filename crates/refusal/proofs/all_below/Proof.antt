@@ -1,4 +1,4 @@
-use Prim.Native.Nat.{_+_, _-_, _<_, _≤_}
+use Prim.Native.Nat.{_-_, _≤_}
 use mathlib.Core.Path.{_≡_, refl, sym, _∙_}
 use native.Mathlib.Omega.{arith}
 use borrow.Author.Needs.{needs}
@@ -7,8 +7,6 @@ use Rattle.machine.specs.Refusal.{below}
 use Rattle.refusal.proofs.Laws.{below-next, below-not, below-end}
 use Rattle.refusal.proofs.all_below.Statement.{statement}
 use Rattle.refusal.proofs.all_below.Tie as tie
-use Rattle.refusal.proofs.all_below.Reads as reads
-use Rattle.refusal.proofs.all_below.Lts as lts
 
 abbrev Inv-loop : tie.InvT-loop
 Inv-loop numbers n e₀ e = (e ≤ length numbers) × (below n (drop e numbers) ≡ below n numbers)
@@ -16,35 +14,27 @@ Inv-loop numbers n e₀ e = (e ≤ length numbers) × (below n (drop e numbers) 
 abbrev μ-loop : tie.MeasureT-loop
 μ-loop numbers n e₀ e = length numbers - e
 
--- src/lib.rt:13:5
 loop-holds : tie.Need-loop-holds Inv-loop μ-loop
 loop-holds c = (omega arith, refl)
 
--- src/lib.rt:14:17
 mul-if1 : tie.Need-mul-if1 Inv-loop μ-loop
 mul-if1 c = search needs
 
--- src/lib.rt:14:17
 shared-slice-read-if1 : tie.Need-shared-slice-read-if1 Inv-loop μ-loop
 shared-slice-read-if1 c = search needs
 
--- src/lib.rt:15:13
 returns : tie.Need-returns Inv-loop μ-loop
 returns c = sym (below-not _ _ _ (c .before .before .loop-test .taken) (c .if1 .taken)) ∙ c .before .before .before .loop .inv .1
 
--- src/lib.rt:17:9
 add-e : tie.Need-add-e Inv-loop μ-loop
 add-e c = search needs
 
--- src/lib.rt:13:5
 loop-less : tie.Need-loop-less Inv-loop μ-loop
 loop-less c = search needs
 
--- src/lib.rt:13:5
 loop-again : tie.Need-loop-again Inv-loop μ-loop
 loop-again c = (search needs, sym (below-next _ _ _ (c .before .before .loop-test .taken) (c .if1 .left)) ∙ c .before .before .before .loop .inv .1)
 
--- src/lib.rt:9:1
 returns-2 : tie.Need-returns-2 Inv-loop μ-loop
 returns-2 c = sym (below-end _ _ _ (c .loop-test .left)) ∙ c .before .loop .inv .1
 

@@ -1,66 +1,49 @@
-use borrow.Author.Tests.{lt-ltb, le-ltb, le-leb, lt-leb, eq-eqb, ne-eqb, not-true, not-false}
+use borrow.Author.Tests.{lt-ltb, le-ltb, eq-eqb, ne-eqb, not-true, not-false}
 use Rattle.machine.specs.Refusal.{pairRefusal, first}
 use borrow.Author.Needs.{needs}
 use Rattle.refusal.proofs.of_pair.Statement.{statement}
 use Rattle.refusal.proofs.of_pair.Tie as tie
-use Rattle.refusal.proofs.of_pair.Reads as reads
-use Rattle.refusal.proofs.of_pair.Lts as lts
-use Rattle.refusal.proofs.bytes_below.Reads as bytes-below-reads
-use Rattle.refusal.proofs.memory_fits.Reads as memory-fits-reads
-use Rattle.refusal.proofs.state_fits.Reads as state-fits-reads
 
--- src/lib.rt:158:9
 memory-fits-requires : tie.Need-memory-fits-requires
 memory-fits-requires c κs = search needs
 
--- src/lib.rt:159:9
 returns : tie.Need-returns
 unfolding pairRefusal first
 returns c = rw (← c .before .memory-fits .ensures, c .if1 .taken)
 
--- src/lib.rt:162:9
 returns-2 : tie.Need-returns-2
 unfolding pairRefusal first
 returns-2 c = rw (← c .before .before .before .memory-fits .ensures, c .before .before .if1 .left, ne-eqb _ _ (c .if2 .taken))
 
--- src/lib.rt:165:9
 returns-3 : tie.Need-returns-3
 unfolding pairRefusal first
 returns-3 c = rw (← c .before .before .before .before .before .memory-fits .ensures, c .before .before .before .before .if1 .left, eq-eqb _ _ (c .before .before .if2 .left), ne-eqb _ _ (c .if3 .taken))
 
--- src/lib.rt:168:9
 returns-4 : tie.Need-returns-4
 unfolding pairRefusal first
 returns-4 c = rw (← c .before .before .before .before .before .before .memory-fits .ensures, c .before .before .before .before .before .if1 .left, eq-eqb _ _ (c .before .before .before .if2 .left), eq-eqb _ _ (c .before .if3 .left), lt-ltb _ _ (c .if4 .taken))
 
--- src/lib.rt:170:9
 bytes-below-requires : tie.Need-bytes-below-requires
 bytes-below-requires c κs = search needs
 
--- src/lib.rt:171:9
 returns-5 : tie.Need-returns-5
 unfolding pairRefusal first
 returns-5 c = rw (← c .before .before .before .before .before .before .before .before .memory-fits .ensures, c .before .before .before .before .before .before .before .if1 .left, eq-eqb _ _ (c .before .before .before .before .before .if2 .left), eq-eqb _ _ (c .before .before .before .if3 .left), le-ltb _ _ (c .before .before .if4 .left), ← c .before .bytes-below .ensures, c .if5 .taken)
 
--- src/lib.rt:173:9
 state-fits-requires : tie.Need-state-fits-requires
 state-fits-requires c κs = search needs
 
--- src/lib.rt:174:9
 returns-6 : tie.Need-returns-6
 unfolding pairRefusal first
 returns-6 c = rw (← c .before .before .before .before .before .before .before .before .before .before .memory-fits .ensures, c .before .before .before .before .before .before .before .before .before .if1 .left, eq-eqb _ _ (c .before .before .before .before .before .before .before .if2 .left), eq-eqb _ _ (c .before .before .before .before .before .if3 .left), le-ltb _ _ (c .before .before .before .before .if4 .left), ← c .before .before .before .bytes-below .ensures, c .before .before .if5 .left, ← c .before .state-fits .ensures, not-true (c .before .state-fits .result) (c .if6 .taken))
 
--- src/lib.rt:176:9
 state-fits-requires-2 : tie.Need-state-fits-requires-2
 state-fits-requires-2 c κs = search needs
 
--- src/lib.rt:177:9
 returns-7 : tie.Need-returns-7
 unfolding pairRefusal first
 returns-7 c = rw (← c .before .before .before .before .before .before .before .before .before .before .before .before .memory-fits .ensures, c .before .before .before .before .before .before .before .before .before .before .before .if1 .left, eq-eqb _ _ (c .before .before .before .before .before .before .before .before .before .if2 .left), eq-eqb _ _ (c .before .before .before .before .before .before .before .if3 .left), le-ltb _ _ (c .before .before .before .before .before .before .if4 .left), ← c .before .before .before .before .before .bytes-below .ensures, c .before .before .before .before .if5 .left, ← c .before .before .before .state-fits .ensures, not-false (c .before .before .before .state-fits .result) (c .before .before .if6 .left), ← c .before .state-fits2 .ensures, c .if7 .taken)
 
--- src/lib.rt:153:1
 returns-8 : tie.Need-returns-8
 unfolding pairRefusal first
 returns-8 c = rw (← c .before .before .before .before .before .before .before .before .before .before .before .before .memory-fits .ensures, c .before .before .before .before .before .before .before .before .before .before .before .if1 .left, eq-eqb _ _ (c .before .before .before .before .before .before .before .before .before .if2 .left), eq-eqb _ _ (c .before .before .before .before .before .before .before .if3 .left), le-ltb _ _ (c .before .before .before .before .before .before .if4 .left), ← c .before .before .before .before .before .bytes-below .ensures, c .before .before .before .before .if5 .left, ← c .before .before .before .state-fits .ensures, not-false (c .before .before .before .state-fits .result) (c .before .before .if6 .left), ← c .before .state-fits2 .ensures, c .if7 .left)

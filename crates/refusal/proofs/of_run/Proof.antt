@@ -1,42 +1,31 @@
-use borrow.Author.Tests.{lt-ltb, le-ltb, le-leb, lt-leb, eq-eqb, ne-eqb, not-true, not-false}
+use borrow.Author.Tests.{lt-ltb, le-ltb}
 use Rattle.machine.specs.Refusal.{runRefusal, first}
 use borrow.Author.Needs.{needs}
 use Rattle.refusal.proofs.of_run.Statement.{statement}
 use Rattle.refusal.proofs.of_run.Tie as tie
-use Rattle.refusal.proofs.of_run.Reads as reads
-use Rattle.refusal.proofs.of_run.Lts as lts
-use Rattle.refusal.proofs.memory_fits.Reads as memory-fits-reads
-use Rattle.refusal.proofs.state_fits.Reads as state-fits-reads
 
--- src/lib.rt:137:9
 memory-fits-requires : tie.Need-memory-fits-requires
 memory-fits-requires c κs = search needs
 
--- src/lib.rt:138:9
 returns : tie.Need-returns
 unfolding runRefusal first
 returns c = rw (← c .before .memory-fits .ensures, c .if1 .taken)
 
--- src/lib.rt:141:9
 returns-2 : tie.Need-returns-2
 unfolding runRefusal first
 returns-2 c = rw (← c .before .before .memory-fits .ensures, c .before .if1 .left, lt-ltb _ _ (c .if2 .taken))
 
--- src/lib.rt:144:9
 returns-3 : tie.Need-returns-3
 unfolding runRefusal first
 returns-3 c = rw (← c .before .before .before .before .memory-fits .ensures, c .before .before .before .if1 .left, le-ltb _ _ (c .before .before .if2 .left), lt-ltb _ _ (c .if3 .taken))
 
--- src/lib.rt:146:9
 state-fits-requires : tie.Need-state-fits-requires
 state-fits-requires c κs = search needs
 
--- src/lib.rt:147:9
 returns-4 : tie.Need-returns-4
 unfolding runRefusal first
 returns-4 c = rw (← c .before .before .before .before .before .before .memory-fits .ensures, c .before .before .before .before .before .if1 .left, le-ltb _ _ (c .before .before .before .before .if2 .left), le-ltb _ _ (c .before .before .if3 .left), ← c .before .state-fits .ensures, c .if4 .taken)
 
--- src/lib.rt:133:1
 returns-5 : tie.Need-returns-5
 unfolding runRefusal first
 returns-5 c = rw (← c .before .before .before .before .before .before .memory-fits .ensures, c .before .before .before .before .before .if1 .left, le-ltb _ _ (c .before .before .before .before .if2 .left), le-ltb _ _ (c .before .before .if3 .left), ← c .before .state-fits .ensures, c .if4 .left)

@@ -1,70 +1,53 @@
-use borrow.Author.Tests.{lt-ltb, le-ltb, le-leb, lt-leb, eq-eqb, ne-eqb, not-true, not-false}
+use borrow.Author.Tests.{le-leb, lt-leb, not-true, not-false}
 use Rattle.machine.specs.Refusal.{registersFit}
 use borrow.Author.Needs.{needs}
 use Rattle.refusal.proofs.registers_fit.Statement.{statement}
 use Rattle.refusal.proofs.registers_fit.Tie as tie
-use Rattle.refusal.proofs.registers_fit.Reads as reads
-use Rattle.refusal.proofs.registers_fit.Lts as lts
-use Rattle.refusal.proofs.all_below.Reads as all-below-reads
 
--- src/lib.rt:51:19
 slice-aggregate-all-below : tie.Need-slice-aggregate-all-below
 slice-aggregate-all-below c = search needs
 
--- src/lib.rt:51:9
 all-below-requires : tie.Need-all-below-requires
 all-below-requires c κs = search needs
 
--- src/lib.rt:52:9
 returns : tie.Need-returns
 unfolding registersFit
 returns c = rw (← c .before .all-below .ensures, not-true (c .before .all-below .result) (c .if1 .taken))
 
--- src/lib.rt:54:19
 slice-aggregate-all-below-2 : tie.Need-slice-aggregate-all-below-2
 slice-aggregate-all-below-2 c = search needs
 
--- src/lib.rt:54:9
 all-below-requires-2 : tie.Need-all-below-requires-2
 all-below-requires-2 c κs = search needs
 
--- src/lib.rt:55:9
 returns-2 : tie.Need-returns-2
 unfolding registersFit
 returns-2 c = rw (← c .before .before .before .before .all-below .ensures, not-false (c .before .before .before .before .all-below .result) (c .before .before .before .if1 .left), ← c .before .all-below2 .ensures, not-true (c .before .all-below2 .result) (c .if2 .taken))
 
--- src/lib.rt:57:19
 slice-aggregate-all-below-3 : tie.Need-slice-aggregate-all-below-3
 slice-aggregate-all-below-3 c = search needs
 
--- src/lib.rt:57:9
 all-below-requires-3 : tie.Need-all-below-requires-3
 all-below-requires-3 c κs = search needs
 
--- src/lib.rt:58:9
 returns-3 : tie.Need-returns-3
 unfolding registersFit
 returns-3 c = rw (← c .before .before .before .before .before .before .before .all-below .ensures, not-false (c .before .before .before .before .before .before .before .all-below .result) (c .before .before .before .before .before .before .if1 .left), ← c .before .before .before .before .all-below2 .ensures, not-false (c .before .before .before .before .all-below2 .result) (c .before .before .before .if2 .left), ← c .before .all-below3 .ensures, not-true (c .before .all-below3 .result) (c .if3 .taken))
 
--- src/lib.rt:60:19
 slice-aggregate-all-below-4 : tie.Need-slice-aggregate-all-below-4
 slice-aggregate-all-below-4 c = search needs
 
--- src/lib.rt:60:9
 all-below-requires-4 : tie.Need-all-below-requires-4
 all-below-requires-4 c κs = search needs
 
--- src/lib.rt:61:9
 returns-4 : tie.Need-returns-4
 unfolding registersFit
 returns-4 c = rw (← c .before .before .before .before .before .before .before .before .before .before .all-below .ensures, not-false (c .before .before .before .before .before .before .before .before .before .before .all-below .result) (c .before .before .before .before .before .before .before .before .before .if1 .left), ← c .before .before .before .before .before .before .before .all-below2 .ensures, not-false (c .before .before .before .before .before .before .before .all-below2 .result) (c .before .before .before .before .before .before .if2 .left), ← c .before .before .before .before .all-below3 .ensures, not-false (c .before .before .before .before .all-below3 .result) (c .before .before .before .if3 .left), ← c .before .all-below4 .ensures, not-true (c .before .all-below4 .result) (c .if4 .taken))
 
--- src/lib.rt:64:9
 returns-5 : tie.Need-returns-5
 unfolding registersFit
 returns-5 c = rw (← c .before .before .before .before .before .before .before .before .before .before .before .before .all-below .ensures, not-false (c .before .before .before .before .before .before .before .before .before .before .before .before .all-below .result) (c .before .before .before .before .before .before .before .before .before .before .before .if1 .left), ← c .before .before .before .before .before .before .before .before .before .all-below2 .ensures, not-false (c .before .before .before .before .before .before .before .before .before .all-below2 .result) (c .before .before .before .before .before .before .before .before .if2 .left), ← c .before .before .before .before .before .before .all-below3 .ensures, not-false (c .before .before .before .before .before .before .all-below3 .result) (c .before .before .before .before .before .if3 .left), ← c .before .before .before .all-below4 .ensures, not-false (c .before .before .before .all-below4 .result) (c .before .before .if4 .left), lt-leb _ _ (c .if5 .taken))
 
--- src/lib.rt:44:1
 returns-6 : tie.Need-returns-6
 unfolding registersFit
 returns-6 c = rw (← c .before .before .before .before .before .before .before .before .before .before .before .before .before .all-below .ensures, not-false (c .before .before .before .before .before .before .before .before .before .before .before .before .before .all-below .result) (c .before .before .before .before .before .before .before .before .before .before .before .before .if1 .left), ← c .before .before .before .before .before .before .before .before .before .before .all-below2 .ensures, not-false (c .before .before .before .before .before .before .before .before .before .before .all-below2 .result) (c .before .before .before .before .before .before .before .before .before .if2 .left), ← c .before .before .before .before .before .before .before .all-below3 .ensures, not-false (c .before .before .before .before .before .before .before .all-below3 .result) (c .before .before .before .before .before .before .if3 .left), ← c .before .before .before .before .all-below4 .ensures, not-false (c .before .before .before .before .all-below4 .result) (c .before .before .before .if4 .left), le-leb _ _ (c .before .if5 .left))

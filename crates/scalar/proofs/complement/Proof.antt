@@ -1,8 +1,8 @@
-use native.Mathlib.Omega.{arith}
 use borrow.Author.Needs.{needs}
 use Rattle.machine.specs.Act.{act}
 use Rattle.machine.specs.State.{apply}
 use Rattle.machine.specs.Work.{execute, perform}
+use Rattle.access.proofs.Laws.{second}
 use Rattle.scalar.proofs.complement.Statement.{statement}
 use Rattle.scalar.proofs.complement.Tie as tie
 
@@ -25,8 +25,8 @@ returns : tie.Need-returns
 unfolding execute
 returns c =
     λ fr a b t v k h.
-    let e = rw (c .before .before .before .before .on .ensures) at (c .before .before .before .fetch .ensures .0 fr h) in
-    rw (← e (omega arith), c .before .enum-told .given .1, c .no-parcel .ensures, h .user)
+    let e = second fr _ _ _ _ (c .before .before .before .before .on .ensures) (c .before .before .before .fetch .ensures .0 fr h) in
+    rw (e, c .before .enum-told .given .1, c .no-parcel .ensures, h .user)
 
 jkm-requires : tie.Need-jkm-requires
 jkm-requires c κs = c .before .before .before .fetch .ensures .1 _ (c .before .m .given .1)
@@ -47,8 +47,8 @@ returns-2 : tie.Need-returns-2
 unfolding execute act perform apply
 returns-2 c =
     λ fr a b t v k h.
-    let e = rw (c .before .before .before .before .before .before .before .on .ensures) at (c .before .before .before .before .before .before .fetch .ensures .0 fr h) in
-    rw (← e (omega arith), c .before .before .before .before .m .given .1, c .past .ensures, c .before .i .ensures, c .before .before .jkm .ensures)
+    let e = second fr _ _ _ _ (c .before .before .before .before .before .before .before .on .ensures) (c .before .before .before .before .before .before .fetch .ensures .0 fr h) in
+    rw (e, c .before .before .before .before .m .given .1, c .past .ensures, c .before .i .ensures, c .before .before .jkm .ensures)
 
 pub complement-spec : {M : Type 1} → statement M
 complement-spec =

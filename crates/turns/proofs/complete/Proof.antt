@@ -5,110 +5,82 @@ use Rattle.turns.proofs.Laws.{flag-lt}
 use borrow.Author.Needs.{needs}
 use Rattle.turns.proofs.complete.Statement.{statement}
 use Rattle.turns.proofs.complete.Tie as tie
-use Rattle.turns.proofs.complete.Reads as reads
-use Rattle.turns.proofs.complete.Lts as lts
-use Rattle.turns.proofs.in_user_mode.Reads as in-user-mode-reads
-use Rattle.turns.proofs.leave.Reads as leave-reads
 
--- src/turn.rt:127:20
 enum-known-w : tie.Need-enum-known-w
 enum-known-w c = search needs
 
--- src/turn.rt:131:26
 enum-known-w-2 : tie.Need-enum-known-w-2
 enum-known-w-2 c = search needs
 
--- src/turn.rt:132:17
 in-user-mode-requires : tie.Need-in-user-mode-requires
 in-user-mode-requires c κs = search needs
 
--- src/turn.rt:133:13
 leave-requires : tie.Need-leave-requires
 leave-requires c κs = (c .before .before .before .before .before .before .before .before .before .before .before .pre .1 .1 .0, (c .before .before .before .before .before .before .before .before .before .before .before .pre .1 .0, c .before .before .before .before .before .before .before .before .before .before .before .pre .0, rw (c .before .before .before .before .before .before .before .before .w2 .given .1) at (c .before .before .before .before .before .before .before .before .before .before .before .pre .1 .1 .1 .1), rw (c .before .before .before .before .before .in-user-mode .ensures) (flag-lt (frame (c .before .before .before .before .before .before .before .before .before .before .before .args .q .now)) 1 (omega arith))))
 
--- src/turn.rt:135:25
 enum-known-w-3 : tie.Need-enum-known-w-3
 enum-known-w-3 c = search needs
 
--- src/turn.rt:136:17
 in-user-mode-requires-2 : tie.Need-in-user-mode-requires-2
 in-user-mode-requires-2 c κs = search needs
 
--- src/turn.rt:137:13
 leave-requires-2 : tie.Need-leave-requires-2
 leave-requires-2 c κs = (c .before .before .before .before .before .before .before .before .before .before .before .pre .1 .1 .0, (c .before .before .before .before .before .before .before .before .before .before .before .pre .1 .0, c .before .before .before .before .before .before .before .before .before .before .before .pre .0, rw (c .before .before .before .before .before .before .before .before .w3 .given .1) at (c .before .before .before .before .before .before .before .before .before .before .before .pre .1 .1 .1 .1), rw (c .before .before .before .before .before .in-user-mode2 .ensures) (flag-lt (frame (c .before .before .before .before .before .before .before .before .before .before .before .args .q .now)) 2 (omega arith))))
 
--- src/turn.rt:139:28
 enum-known-w-4 : tie.Need-enum-known-w-4
 enum-known-w-4 c = search needs
 
--- src/turn.rt:139:37
 leave-requires-3 : tie.Need-leave-requires-3
 leave-requires-3 c κs = (c .before .before .before .before .before .before .before .before .before .pre .1 .1 .0, (c .before .before .before .before .before .before .before .before .before .pre .1 .0, c .before .before .before .before .before .before .before .before .before .pre .0, rw (c .before .before .before .before .before .before .w4 .given .1) at (c .before .before .before .before .before .before .before .before .before .pre .1 .1 .1 .1), omega arith))
 
--- src/turn.rt:140:37
 enum-told : tie.Need-enum-told
 enum-told c = search needs
 
--- src/turn.rt:140:31
 leave-requires-4 : tie.Need-leave-requires-4
 leave-requires-4 c κs = (c .before .before .before .before .before .before .before .before .pre .1 .1 .0, (c .before .before .before .before .before .before .before .before .pre .1 .0, c .before .before .before .before .before .before .before .before .pre .0, c .before .before .before .before .before .before .before .before .pre .1 .1 .1 .0, omega arith))
 
--- src/turn.rt:143:21
 enum-told-2 : tie.Need-enum-told-2
 enum-told-2 c = search needs
 
--- src/turn.rt:147:21
 enum-told-3 : tie.Need-enum-told-3
 enum-told-3 c = search needs
 
--- src/turn.rt:109:1
 returns : tie.Need-returns
 unfolding finish
 returns c = ((λ b t v. rw (c .before .w .given .1)), (c .before .before .before .before .pre .0, c .before .before .before .before .pre .1 .0, rw (c .before .w .given .1) at (c .before .before .before .before .pre .1 .1 .1 .1)))
 
--- src/turn.rt:109:1
 same-length : tie.Need-same-length
 same-length c = search needs
 
--- src/turn.rt:109:1
 returns-2 : tie.Need-returns-2
 unfolding finish
 returns-2 c = ((λ b t v. rw (c .before .before .before .before .before .before .before .before .before .before .before .w2 .given .1, ← c .before .before .before .before .before .before .before .before .in-user-mode .ensures) (c .before .before .leave .ensures .0 b t v)), c .before .before .leave .ensures .1)
 
--- src/turn.rt:109:1
 same-length-2 : tie.Need-same-length-2
 same-length-2 c = search needs
 
--- src/turn.rt:109:1
 returns-3 : tie.Need-returns-3
 unfolding finish
 returns-3 c = ((λ b t v. rw (c .before .before .before .before .before .before .before .before .before .before .before .w3 .given .1, ← c .before .before .before .before .before .before .before .before .in-user-mode2 .ensures) (c .before .before .leave2 .ensures .0 b t v)), c .before .before .leave2 .ensures .1)
 
--- src/turn.rt:109:1
 same-length-3 : tie.Need-same-length-3
 same-length-3 c = search needs
 
--- src/turn.rt:109:1
 returns-4 : tie.Need-returns-4
 unfolding finish
 returns-4 c = ((λ b t v. rw (c .before .before .before .before .before .before .before .before .before .w4 .given .1) (c .before .before .leave3 .ensures .0 b t v)), c .before .before .leave3 .ensures .1)
 
--- src/turn.rt:109:1
 same-length-4 : tie.Need-same-length-4
 same-length-4 c = search needs
 
--- src/turn.rt:109:1
 returns-5 : tie.Need-returns-5
 unfolding finish
 returns-5 c = ((λ b t v. rw (c .before .before .before .before .before .before .before .before .enum-told .given .1) (c .before .before .leave4 .ensures .0 b t v)), c .before .before .leave4 .ensures .1)
 
--- src/turn.rt:109:1
 returns-6 : tie.Need-returns-6
 unfolding finish
 returns-6 c = ((λ b t v. rw (c .enum-told2 .given .1)), (c .before .before .before .pre .0, c .before .before .before .pre .1 .0, c .before .before .before .pre .1 .1 .1 .0))
 
--- src/turn.rt:109:1
 returns-7 : tie.Need-returns-7
 unfolding finish
 returns-7 c = ((λ b t v. rw (c .enum-told3 .given .1)), (c .before .before .before .pre .0, c .before .before .before .pre .1 .0, c .before .before .before .pre .1 .1 .1 .0))

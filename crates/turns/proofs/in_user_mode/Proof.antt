@@ -1,19 +1,14 @@
-use borrow.Author.Tests.{eq-eqb, ne-eqb}
+use borrow.Author.Tests.{ne-eqb}
 use borrow.Author.Needs.{needs}
 use Rattle.turns.proofs.in_user_mode.Statement.{statement}
 use Rattle.turns.proofs.in_user_mode.Tie as tie
-use Rattle.turns.proofs.in_user_mode.Reads as reads
-use Rattle.turns.proofs.in_user_mode.Lts as lts
 
--- src/turn.rt:83:8
 element-copy-out-if1 : tie.Need-element-copy-out-if1
 element-copy-out-if1 c = search needs
 
--- src/turn.rt:80:1
 returns : tie.Need-returns
 returns c = rw (c .if1 .taken)
 
--- src/turn.rt:80:1
 returns-2 : tie.Need-returns-2
 returns-2 c = rw (ne-eqb _ _ (c .if1 .left))
 

@@ -6,73 +6,52 @@ use Rattle.turns.proofs.Laws.{burst-ok, turn-ends, end-stepped, end-exc
 use borrow.Author.Needs.{needs}
 use Rattle.turns.proofs.turn.Statement.{statement}
 use Rattle.turns.proofs.turn.Tie as tie
-use Rattle.turns.proofs.turn.Reads as reads
-use Rattle.turns.proofs.turn.Lts as lts
-use Rattle.access.proofs.reach.Reads as reach-reads
-use Rattle.turns.proofs.complete.Reads as complete-reads
-use Rattle.turns.proofs.take_burst.Reads as take-burst-reads
 
--- src/lib.rt:182:9
 reach-requires : tie.Need-reach-requires
 reach-requires c κs = search needs
 
--- src/lib.rt:183:9
 take-burst-requires : tie.Need-take-burst-requires
 take-burst-requires c κs = (c .before .before .before .before .before .before .before .before .before .before .before .before .pre .0, (c .before .before .before .before .before .before .before .before .before .before .before .before .pre .1 .0, (reaches-inside _ _ _ (c .before .before .before .before .before .before .before .before .reach .ensures), (c .before .before .before .before .before .before .before .before .reach .ensures, c .before .before .before .before .before .before .before .before .before .before .before .before .pre .1 .1 .1 .0))))
 
--- src/lib.rt:185:9
 complete-requires : tie.Need-complete-requires
 complete-requires c κs = let g = c .before .before .before .before .before .before .before .before .before .before .before .before .before .before .before .before .before .before .before .before .args in let fr = frame (g .q .now) in let r = registers (g .a .now) (g .s .now) (g .b .now) (g .t .now) (g .v .now) (g .k .now) in let e = c .before .before .before .before .before .before .before .take-burst .ensures in let k = burst-ok fr (g .budget) (g .p) r (g .mem .now) _ e (c .before .before .before .before .before .before .before .before .before .before .before .before .before .before .before .before .before .before .before .before .pre .1 .1 .1 .0) (c .before .before .before .before .before .before .before .before .before .before .before .before .before .before .before .before .before .before .before .before .pre .0) in (k .registers, (c .before .before .before .before .before .before .before .before .before .before .before .before .before .before .before .before .before .before .before .before .pre .1 .0, (omega (arith, k .mem, c .before .before .before .before .before .before .before .before .before .before .before .before .before .before .before .before .before .before .before .before .pre .1 .1 .0 .0), (k .p, k .work))))
 
--- src/lib.rt:189:28
 enum-told : tie.Need-enum-told
 enum-told c = search needs
 
--- src/lib.rt:196:20
 enum-told-2 : tie.Need-enum-told-2
 enum-told-2 c = search needs
 
--- src/lib.rt:196:20
 add-t36 : tie.Need-add-t36
 add-t36 c = let g = c .before .before .before .before .before .before .before .before .before .before .before .before .before .before .before .before .before .before .before .before .before .before .before .before .before .before .before .args in let fr = frame (g .q .now) in let r = registers (g .a .now) (g .s .now) (g .b .now) (g .t .now) (g .v .now) (g .k .now) in let e = c .before .before .before .before .before .before .before .before .before .before .before .before .before .before .take-burst .ensures in let k = burst-ok fr (g .budget) (g .p) r (g .mem .now) _ e (c .before .before .before .before .before .before .before .before .before .before .before .before .before .before .before .before .before .before .before .before .before .before .before .before .before .before .before .pre .1 .1 .1 .0) (c .before .before .before .before .before .before .before .before .before .before .before .before .before .before .before .before .before .before .before .before .before .before .before .before .before .before .before .pre .0) in omega (arith, k .steps, c .before .before .before .before .before .before .before .before .before .before .before .before .before .before .before .before .before .before .before .before .before .before .before .before .before .before .before .pre .1 .1 .1 .1)
 
--- src/lib.rt:199:31
 enum-told-3 : tie.Need-enum-told-3
 enum-told-3 c = search needs
 
--- src/lib.rt:204:36
 enum-told-4 : tie.Need-enum-told-4
 enum-told-4 c = search needs
 
--- src/lib.rt:163:1
 same-length : tie.Need-same-length
 same-length c = search needs
 
--- src/lib.rt:163:1
 returns : tie.Need-returns
 returns c = let g = c .before .before .before .before .before .before .before .before .before .before .before .before .before .before .before .before .before .before .before .before .before .before .before .before .before .before .args in let fr = frame (g .q .now) in let r = registers (g .a .now) (g .s .now) (g .b .now) (g .t .now) (g .v .now) (g .k .now) in let e = c .before .before .before .before .before .before .before .before .before .before .before .before .before .take-burst .ensures in let t = end-stepped _ _ (c .enum-told .given .1) ∙ turn-ends fr (g .budget) (g .p) r (g .mem .now) _ _ e (c .before .before .before .before .before .complete .ensures .0 _ _ _) in (t, (c .before .before .before .before .before .complete .ensures .1 .0, c .before .before .before .before .before .complete .ensures .1 .1, c .before .before .before .before .before .complete .ensures .1 .2, turn-counted (g .budget) _ _ _ _ _ _ t))
 
--- src/lib.rt:163:1
 same-length-2 : tie.Need-same-length-2
 same-length-2 c = search needs
 
--- src/lib.rt:163:1
 returns-2 : tie.Need-returns-2
 returns-2 c = let g = c .before .before .before .before .before .before .before .before .before .before .before .before .before .before .before .before .before .before .before .before .before .before .before .before .before .before .before .args in let fr = frame (g .q .now) in let r = registers (g .a .now) (g .s .now) (g .b .now) (g .t .now) (g .v .now) (g .k .now) in let e = c .before .before .before .before .before .before .before .before .before .before .before .before .before .before .take-burst .ensures in let t = end-exchanged _ _ _ (c .before .enum-told2 .given .1) ∙ turn-ends fr (g .budget) (g .p) r (g .mem .now) _ _ e (c .before .before .before .before .before .before .complete .ensures .0 _ _ _) in (t, (c .before .before .before .before .before .before .complete .ensures .1 .0, c .before .before .before .before .before .before .complete .ensures .1 .1, c .before .before .before .before .before .before .complete .ensures .1 .2, turn-counted (g .budget) _ _ _ _ _ _ t))
 
--- src/lib.rt:163:1
 same-length-3 : tie.Need-same-length-3
 same-length-3 c = search needs
 
--- src/lib.rt:163:1
 returns-3 : tie.Need-returns-3
 returns-3 c = let g = c .before .before .before .before .before .before .before .before .before .before .before .before .before .before .before .before .before .before .before .before .before .before .before .before .before .before .args in let fr = frame (g .q .now) in let r = registers (g .a .now) (g .s .now) (g .b .now) (g .t .now) (g .v .now) (g .k .now) in let e = c .before .before .before .before .before .before .before .before .before .before .before .before .before .take-burst .ensures in let t = end-not-held _ _ _ (c .enum-told3 .given .1) ∙ turn-ends fr (g .budget) (g .p) r (g .mem .now) _ _ e (c .before .before .before .before .before .complete .ensures .0 _ _ _) in (t, (c .before .before .before .before .before .complete .ensures .1 .0, c .before .before .before .before .before .complete .ensures .1 .1, c .before .before .before .before .before .complete .ensures .1 .2, turn-counted (g .budget) _ _ _ _ _ _ t))
 
--- src/lib.rt:163:1
 same-length-4 : tie.Need-same-length-4
 same-length-4 c = search needs
 
--- src/lib.rt:163:1
 returns-4 : tie.Need-returns-4
 returns-4 c = let g = c .before .before .before .before .before .before .before .before .before .before .before .before .before .before .before .before .before .before .before .before .before .before .before .before .before .before .args in let fr = frame (g .q .now) in let r = registers (g .a .now) (g .s .now) (g .b .now) (g .t .now) (g .v .now) (g .k .now) in let e = c .before .before .before .before .before .before .before .before .before .before .before .before .before .take-burst .ensures in let t = end-unfetched _ _ _ (c .enum-told4 .given .1) ∙ turn-ends fr (g .budget) (g .p) r (g .mem .now) _ _ e (c .before .before .before .before .before .complete .ensures .0 _ _ _) in (t, (c .before .before .before .before .before .complete .ensures .1 .0, c .before .before .before .before .before .complete .ensures .1 .1, c .before .before .before .before .before .complete .ensures .1 .2, turn-counted (g .budget) _ _ _ _ _ _ t))
 

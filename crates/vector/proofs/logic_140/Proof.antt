@@ -4,7 +4,7 @@ use borrow.Author.Needs.{needs}
 use Rattle.machine.specs.Act.{act}
 use Rattle.machine.specs.State.{apply}
 use Rattle.machine.specs.Work.{perform, execute}
-use Rattle.vector.proofs.Laws.{none-below}
+use Rattle.access.proofs.Match.{none-in}
 use Rattle.vector.proofs.logic_140.Statement.{statement}
 use Rattle.vector.proofs.logic_140.Tie as tie
 
@@ -65,7 +65,7 @@ returns-7 c = λ fr a b t mem. rw (← c .before .before .before .h .ensures, c 
 
 returns-8 : tie.Need-returns-8
 unfolding execute act perform apply
-returns-8 c = λ fr a b t mem. let e : c .before .before .before .h .result ≡ 7 = omega (arith, none-below _ 7 (c .before .before .match .rest)) in rw (← c .before .before .before .h .ensures, e, c .merge-vectors .ensures .0, c .merge-vectors .ensures .1)
+returns-8 c = λ fr a b t mem. let e : c .before .before .before .h .result ≡ 7 = omega (arith, none-in _ 0 7 (omega arith) (c .before .before .match .rest)) in rw (← c .before .before .before .h .ensures, e, c .merge-vectors .ensures .0, c .merge-vectors .ensures .1)
 
 pub logic-140-spec : {M : Type 1} → statement M
 logic-140-spec =

@@ -1,5 +1,6 @@
 use Prim.Native.Nat.{_≤_}
 use mathlib.Core.List.{[], _∷_}
+use native.Mathlib.Omega.{arith}
 use borrow.Author.Needs.{needs}
 use borrow.Author.Tests.{ne-eqb}
 use lib.ListN.{List·getD-eq-default}
@@ -7,7 +8,7 @@ use Rattle.machine.specs.Act.{MarkZ, MarkN, MarkP, MarkM, act}
 use Rattle.machine.specs.Codes.{One, None}
 use Rattle.machine.specs.State.{apply}
 use Rattle.machine.specs.Work.{perform, execute}
-use Rattle.vector.proofs.Laws.{none-below}
+use Rattle.access.proofs.Match.{none-in}
 use Rattle.vector.proofs.mark.Statement.{statement}
 use Rattle.vector.proofs.mark.Tie as tie
 
@@ -51,7 +52,7 @@ returns-5 c = λ fr a s b t mem. rw (← c .before .before .before .before .befo
 
 returns-6 : tie.Need-returns-6
 unfolding execute act perform apply
-returns-6 c = λ fr a s b t mem. let h : 4 ≤ c .before .k .result = none-below _ 4 (c .match .rest) in rw (← c .before .before .before .i .ensures, c .before .before .if1 .left, ← c .before .k .ensures, List·getD-eq-default (One MarkZ ∷ One MarkN ∷ One MarkP ∷ One MarkM ∷ []) None h)
+returns-6 c = λ fr a s b t mem. let h : 4 ≤ c .before .k .result = none-in _ 0 4 (omega arith) (c .match .rest) in rw (← c .before .before .before .i .ensures, c .before .before .if1 .left, ← c .before .k .ensures, List·getD-eq-default (One MarkZ ∷ One MarkN ∷ One MarkP ∷ One MarkM ∷ []) None h)
 
 pub mark-spec : {M : Type 1} → statement M
 mark-spec =

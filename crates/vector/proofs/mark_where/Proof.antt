@@ -5,9 +5,9 @@ use borrow.Author.Needs.{needs}
 use lib.ListN.{getD}
 use Rattle.machine.specs.Act.{marksOf}
 use Rattle.machine.specs.Parcel.{jOf}
-use Rattle.machine.specs.State.{el}
+use Rattle.machine.specs.State.{el, apply}
 use Rattle.vector.specs.Element.{testOf}
-use Rattle.vector.proofs.Laws.{marks-turn, marks-fit, vm-set}
+use Rattle.vector.proofs.Laws.{marks-turn, marks-fit}
 use Rattle.vector.proofs.mark_where.Statement.{statement}
 use Rattle.vector.proofs.mark_where.Tie as tie
 
@@ -16,9 +16,6 @@ Inv-loop v k test p x from n vm₀ e₀ vm e = (e ≤ n) × (vm ≡ marksOf (λ 
 
 abbrev μ-loop : tie.MeasureT-loop
 μ-loop v k test p x from n vm₀ e₀ vm e = n - e
-
-five-requires : tie.Need-five-requires Inv-loop μ-loop
-five-requires c κs = search needs
 
 j-requires : tie.Need-j-requires Inv-loop μ-loop
 j-requires c κs = search needs
@@ -53,19 +50,20 @@ loop-again c =
     let l = c .before .before .before .loop in
     (omega arith, marks-turn _ _ _ (c .mark-of .result) (l .inv .1) (cc))
 
-element-write-k : tie.Need-element-write-k Inv-loop μ-loop
-element-write-k c = search needs
+set-control-requires : tie.Need-set-control-requires Inv-loop μ-loop
+set-control-requires c κs = search needs
 
 past-requires : tie.Need-past-requires Inv-loop μ-loop
 past-requires c κs = search needs
 
 returns : tie.Need-returns Inv-loop μ-loop
+unfolding apply
 returns c =
-    let l = c .before .before in
-    let a = l .before .before .before .before .before .args in
+    let l = c .before .before .before .before in
+    let a = l .before .before .before .args in
     let e : l .loop .e ≡ getD (a .k .now) 1 0 = omega arith in
     let vm : l .loop .vm ≡ marksOf (λ q. testOf (a .test) (el (a .v .now) (jOf (a .x)) q)) (getD (a .k .now) 1 0) = rw (← l .before .before .j .ensures, ← e) (l .loop .inv .1) in
-    ((λ a′ s b t v. rw (← vm) (vm-set a′ s b t v (a .k .now) _ (l .before .before .before .five .ensures))), c .past .ensures)
+    ((λ a′ s b t v. rw (← vm) (c .before .set-control .ensures a′ s b t v)), c .past .ensures)
 
 pub mark-where-spec : {M : Type 1} → statement M
 mark-where-spec =
@@ -73,7 +71,6 @@ mark-where-spec =
     (tie.spec
     Inv-loop
     μ-loop
-    five-requires
     j-requires
     element-copy-out-n
     loop-holds
@@ -83,6 +80,6 @@ mark-where-spec =
     add-e
     loop-less
     loop-again
-    element-write-k
+    set-control-requires
     past-requires
     returns)

@@ -6,7 +6,8 @@ use lib.ListN.{getD}
 use Rattle.machine.specs.Act.{masked}
 use Rattle.machine.specs.State.{el, fill}
 use Rattle.machine.specs.Word.{pick}
-use Rattle.vector.proofs.Laws.{fill-turn, ahead}
+use Rattle.access.proofs.Laws.{fill-turn}
+use Rattle.vector.proofs.Laws.{ahead}
 use Rattle.vector.proofs.merge_scalar.Statement.{statement}
 use Rattle.vector.proofs.merge_scalar.Tie as tie
 

@@ -7,7 +7,8 @@ use lib.ListN.{getD}
 use Rattle.machine.specs.Act.{before}
 use Rattle.machine.specs.State.{el, fill}
 use Rattle.machine.specs.Word.{rightPair}
-use Rattle.vector.proofs.Laws.{fill-turn, ahead}
+use Rattle.access.proofs.Laws.{fill-turn}
+use Rattle.vector.proofs.Laws.{ahead}
 use Rattle.vector.proofs.right_pairs.Statement.{statement}
 use Rattle.vector.proofs.right_pairs.Tie as tie
 

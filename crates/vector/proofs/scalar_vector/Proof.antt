@@ -5,7 +5,8 @@ use borrow.Author.Needs.{needs}
 use lib.ListN.{getD}
 use Rattle.machine.specs.State.{el, fill}
 use Rattle.vector.specs.Element.{twoOf}
-use Rattle.vector.proofs.Laws.{fill-turn, ahead}
+use Rattle.access.proofs.Laws.{fill-turn}
+use Rattle.vector.proofs.Laws.{ahead}
 use Rattle.vector.proofs.scalar_vector.Statement.{statement}
 use Rattle.vector.proofs.scalar_vector.Tie as tie
 

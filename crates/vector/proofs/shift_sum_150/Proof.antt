@@ -4,7 +4,7 @@ use borrow.Author.Needs.{needs}
 use Rattle.machine.specs.Act.{act}
 use Rattle.machine.specs.State.{apply}
 use Rattle.machine.specs.Work.{perform, execute}
-use Rattle.vector.proofs.Laws.{none-below}
+use Rattle.access.proofs.Match.{none-in}
 use Rattle.vector.proofs.shift_sum_150.Statement.{statement}
 use Rattle.vector.proofs.shift_sum_150.Tie as tie
 
@@ -77,7 +77,7 @@ returns-7 c = λ fr b t mem. rw (← c .before .before .before .h .ensures, c .b
 
 returns-8 : tie.Need-returns-8
 unfolding execute act perform apply
-returns-8 c = λ fr b t mem. let e : c .before .before .before .h .result ≡ 7 = omega (arith, none-below _ 7 (c .before .before .match .rest)) in rw (← c .before .before .before .h .ensures, e, c .two-vectors2 .ensures .0, c .two-vectors2 .ensures .1)
+returns-8 c = λ fr b t mem. let e : c .before .before .before .h .result ≡ 7 = omega (arith, none-in _ 0 7 (omega arith) (c .before .before .match .rest)) in rw (← c .before .before .before .h .ensures, e, c .two-vectors2 .ensures .0, c .two-vectors2 .ensures .1)
 
 pub shift-sum-150-spec : {M : Type 1} → statement M
 shift-sum-150-spec =

@@ -1,38 +1,28 @@
 use borrow.Author.Needs.{needs}
 use Rattle.xmp.proofs.ending_of.Statement.{statement}
 use Rattle.xmp.proofs.ending_of.Tie as tie
-use Rattle.xmp.proofs.ending_of.Reads as reads
-use Rattle.xmp.proofs.ending_of.Lts as lts
 
--- src/lib.rt:169:28
 enum-told : tie.Need-enum-told
 enum-told c = search needs
 
--- src/lib.rt:170:33
 enum-told-2 : tie.Need-enum-told-2
 enum-told-2 c = search needs
 
--- src/lib.rt:171:25
 enum-known-last : tie.Need-enum-known-last
 enum-known-last c = search needs
 
--- src/lib.rt:172:30
 enum-known-last-2 : tie.Need-enum-known-last-2
 enum-known-last-2 c = search needs
 
--- src/lib.rt:165:1
 returns : tie.Need-returns
 returns c = search needs
 
--- src/lib.rt:165:1
 returns-2 : tie.Need-returns-2
 returns-2 c = search needs
 
--- src/lib.rt:165:1
 returns-3 : tie.Need-returns-3
 returns-3 c = rw (c .before .last .given .1)
 
--- src/lib.rt:165:1
 returns-4 : tie.Need-returns-4
 returns-4 c = rw (c .before .last2 .given .1)
 

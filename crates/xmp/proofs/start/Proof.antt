@@ -1,42 +1,29 @@
-use native.Mathlib.Omega.{arith}
-use mathlib.Core.Path.{sym, _∙_, ap}
+use mathlib.Core.Path.{sym, _∙_}
 use Rattle.xmp.proofs.Laws.{start-allowed, start-refused, start-called}
 use Rattle.machine.specs.Run.{startOf, zeros}
 use borrow.Author.Needs.{needs}
 use Rattle.xmp.proofs.start.Statement.{statement}
 use Rattle.xmp.proofs.start.Tie as tie
-use Rattle.xmp.proofs.start.Reads as reads
-use Rattle.xmp.proofs.start.Lts as lts
-use Rattle.exchange.proofs.load_package.Reads as load-package-reads
-use Rattle.refusal.proofs.of_start.Reads as of-start-reads
-use Rattle.xmp.proofs.state_of.Reads as state-of-reads
 
--- src/lib.rt:101:9
 of-start-requires : tie.Need-of-start-requires
 of-start-requires c κs = search needs
 
--- src/lib.rt:110:13
 state-of-requires : tie.Need-state-of-requires
 state-of-requires c κs = search needs
 
--- src/lib.rt:111:9
 returns : tie.Need-returns
 unfolding zeros
 returns c = rw (c .state-of .ensures) (start-refused (c .before .before .of-start .result) (c .before .before .before .before .args .mem .now) (c .before .before .before .before .args .x) (c .before .before .before .before .args .processor) (c .before .before .of-start .ensures) (c .before .if1 .taken))
 
--- src/lib.rt:113:5
 array-write-q : tie.Need-array-write-q
 array-write-q c = search needs
 
--- src/lib.rt:114:9
 load-package-requires : tie.Need-load-package-requires
 load-package-requires c κs = let a = start-allowed _ (c .before .before .before .before .before .before .before .args .x) (c .before .before .before .before .before .before .before .args .processor) (sym (c .before .before .before .before .before .of-start .ensures) ∙ c .before .before .before .before .if1 .left) in (a .1, a .0, a .2)
 
--- src/lib.rt:115:9
 state-of-requires-2 : tie.Need-state-of-requires-2
 state-of-requires-2 c κs = search needs
 
--- src/lib.rt:98:1
 returns-2 : tie.Need-returns-2
 unfolding zeros startOf
 returns-2 c = rw (c .state-of2 .ensures, c .before .load-package .ensures .0 _ _ _) (start-called (c .before .before .before .before .before .before .before .of-start .result) (c .before .before .before .before .before .before .before .before .before .args .mem .now) (c .before .before .before .before .before .before .before .before .before .args .x) (c .before .before .before .before .before .before .before .before .before .args .processor) (c .before .before .before .before .before .before .before .of-start .ensures) (c .before .before .before .before .before .before .if1 .left))

@@ -5,7 +5,8 @@ use borrow.Author.Needs.{needs}
 use Rattle.machine.specs.State.{fill}
 use Rattle.machine.specs.Memory.{dataField, anyOutside}
 use Rattle.memory.specs.Words.{Read}
-use Rattle.memory.proofs.Laws.{fill-turn, outside-turn}
+use Rattle.access.proofs.Laws.{fill-turn}
+use Rattle.memory.proofs.Laws.{outside-turn}
 use Rattle.memory.proofs.blocks.gather.Statement.{statement}
 use Rattle.memory.proofs.blocks.gather.Tie as tie
 

@@ -5,11 +5,11 @@ use Rattle.machine.specs.Work.{execute, perform}
 use Rattle.scalar.proofs.shift.right_0.Statement.{statement}
 use Rattle.scalar.proofs.shift.right_0.Tie as tie
 
+sub-count : tie.Need-sub-count
+sub-count c = search needs
+
 at-i-requires : tie.Need-at-i-requires
 at-i-requires c κs = search needs
-
-sub-shifted-right : tie.Need-sub-shifted-right
-sub-shifted-right c = search needs
 
 shifted-right-requires : tie.Need-shifted-right-requires
 shifted-right-requires c κs = search needs
@@ -28,8 +28,8 @@ pub right-0-spec : {M : Type 1} → statement M
 right-0-spec =
     tie.close
     (tie.spec
+    sub-count
     at-i-requires
-    sub-shifted-right
     shifted-right-requires
     element-write-s
     past-requires

@@ -1,14 +1,10 @@
 use borrow.Author.Tests.{ne-eqb}
 use Rattle.turns.proofs.pair.all_stepped.Statement.{statement}
 use Rattle.turns.proofs.pair.all_stepped.Tie as tie
-use Rattle.turns.proofs.pair.all_stepped.Reads as reads
-use Rattle.turns.proofs.pair.all_stepped.Lts as lts
 
--- src/pair.rt:24:1
 returns : tie.Need-returns
 returns c = rw (c .if1 .taken)
 
--- src/pair.rt:24:1
 returns-2 : tie.Need-returns-2
 returns-2 c = rw (ne-eqb _ _ (c .if1 .left))
 

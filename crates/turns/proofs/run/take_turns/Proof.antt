@@ -1,4 +1,4 @@
-use Prim.Native.Nat.{_+_, _-_, _^_, _<_, _≤_}
+use Prim.Native.Nat.{_-_, _^_, _<_, _≤_}
 use mathlib.Core.Path.{_≡_, refl, _∙_}
 use native.Mathlib.Omega.{arith}
 use borrow.Author.Needs.{needs}
@@ -9,9 +9,6 @@ use Rattle.turns.specs.Turn.{state}
 use Rattle.turns.proofs.Laws.{run-begins, run-stepped, run-exchanged, run-not-held, run-unfetched, run-spent, counts-le}
 use Rattle.turns.proofs.run.take_turns.Statement.{statement}
 use Rattle.turns.proofs.run.take_turns.Tie as tie
-use Rattle.turns.proofs.run.take_turns.Reads as reads
-use Rattle.turns.proofs.run.take_turns.Lts as lts
-use Rattle.turns.proofs.turn.Reads as turn-reads
 
 abbrev Inv-loop : tie.InvT-loop
 Inv-loop a₀ s₀ b₀ t₀ v₀ k₀ q₀ mem₀ budget p₀ n₀ a s b t v k q mem p n = (n ≤ budget) × (p .0 < 2 ^ 24) × KOk k × FrameOk (frame q) × (length mem ≡ length mem₀) × (runOf (budget - n) n (state p a s b t v k q) mem ≡ runOf budget 0 (state p₀ a₀ s₀ b₀ t₀ v₀ k₀ q₀) mem₀)
@@ -19,75 +16,57 @@ Inv-loop a₀ s₀ b₀ t₀ v₀ k₀ q₀ mem₀ budget p₀ n₀ a s b t v k 
 abbrev μ-loop : tie.MeasureT-loop
 μ-loop a₀ s₀ b₀ t₀ v₀ k₀ q₀ mem₀ budget p₀ n₀ a s b t v k q mem p n = budget - n
 
--- src/run.rt:34:5
 loop-holds : tie.Need-loop-holds Inv-loop μ-loop
 loop-holds c = (omega arith, c .before .pre .1 .1 .1 .0, c .before .pre .0, c .before .pre .1 .0, refl, run-begins _ _ _)
 
--- src/run.rt:35:61
 sub-turn : tie.Need-sub-turn Inv-loop μ-loop
 sub-turn c = search needs
 
--- src/run.rt:35:13
 turn-requires : tie.Need-turn-requires Inv-loop μ-loop
 turn-requires c κs = let l = c .before .before .before .before .before .before .before .before .before .loop in let i = l .inv in (i .2, (i .3, ((omega (arith, i .4, c .before .before .before .before .before .before .before .before .before .before .before .pre .1 .1 .0 .0), omega (arith, i .4, c .before .before .before .before .before .before .before .before .before .before .before .pre .1 .1 .0 .1)), (i .1, omega (arith, c .before .before .before .before .before .before .before .before .before .before .before .pre .1 .1 .1 .1)))))
 
--- src/run.rt:38:21
 add-steps : tie.Need-add-steps Inv-loop μ-loop
 add-steps c = let l = c .before .before .before .before .before .before .before .before .before .before .before .before .before .before .loop in let i = l .inv in omega (arith, counts-le (c .before .before .before .before .before .before .before .before .before .before .before .before .before .before .before .before .args .budget - l .n) (c .before .before .before .before .turn .result .last) (c .before .before .before .before .turn .result .steps) (c .before .before .before .before .turn .ensures .1 .3), c .before .before .before .before .before .before .before .before .before .before .before .before .before .before .before .before .pre .1 .1 .1 .1, i .0, c .before .before .before .before .before .before .before .before .before .before .before .before .before .loop-test .taken)
 
--- src/run.rt:41:17
 enum-told : tie.Need-enum-told Inv-loop μ-loop
 enum-told c = search needs
 
--- src/run.rt:34:5
 loop-less : tie.Need-loop-less Inv-loop μ-loop
 loop-less c = let l = c .before .before .before .before .before .before .before .before .before .before .before .before .before .before .before .before .loop in let i = l .inv in omega (arith, rw (c .enum-told .given .1) at (c .before .before .before .before .before .before .turn .ensures .1 .3), c .before .before .before .before .before .before .before .before .before .before .before .before .before .before .before .loop-test .taken)
 
--- src/run.rt:34:5
 loop-again : tie.Need-loop-again Inv-loop μ-loop
 loop-again c = let l = c .before .before .before .before .before .before .before .before .before .before .before .before .before .before .before .before .loop in let i = l .inv in let told = c .enum-told .given .1 in let e = rw told at (c .before .before .before .before .before .before .turn .ensures .0) in let k = rw told at (c .before .before .before .before .before .before .turn .ensures .1 .3) in (omega (arith, k, i .0), c .before .before .before .before .before .before .turn .ensures .1 .2, c .before .before .before .before .before .before .turn .ensures .1 .0, c .before .before .before .before .before .before .turn .ensures .1 .1, omega (arith, c .before .before .before .before .before .before .turn .kept, i .4), run-stepped (c .before .before .before .before .before .before .before .before .before .before .before .before .before .before .before .before .before .before .args .budget) (l .n) _ (state (l .p) (l .a) (l .s) (l .b) (l .t) (l .v) (l .k) (l .q)) _ (l .mem) _ (i .0) (omega (arith, k)) e ∙ i .5)
 
--- src/run.rt:45:17
 enum-told-2 : tie.Need-enum-told-2 Inv-loop μ-loop
 enum-told-2 c = search needs
 
--- src/run.rt:34:5
 loop-less-2 : tie.Need-loop-less-2 Inv-loop μ-loop
 loop-less-2 c = let l = c .before .before .before .before .before .before .before .before .before .before .before .before .before .before .before .before .loop in let i = l .inv in omega (arith, rw (c .enum-told2 .given .1) at (c .before .before .before .before .before .before .turn .ensures .1 .3), c .before .before .before .before .before .before .before .before .before .before .before .before .before .before .before .loop-test .taken)
 
--- src/run.rt:34:5
 loop-again-2 : tie.Need-loop-again-2 Inv-loop μ-loop
 loop-again-2 c = let l = c .before .before .before .before .before .before .before .before .before .before .before .before .before .before .before .before .loop in let i = l .inv in let told = c .enum-told2 .given .1 in let e = rw told at (c .before .before .before .before .before .before .turn .ensures .0) in let k = rw told at (c .before .before .before .before .before .before .turn .ensures .1 .3) in (omega (arith, k, i .0), c .before .before .before .before .before .before .turn .ensures .1 .2, c .before .before .before .before .before .before .turn .ensures .1 .0, c .before .before .before .before .before .before .turn .ensures .1 .1, omega (arith, c .before .before .before .before .before .before .turn .kept, i .4), run-exchanged (c .before .before .before .before .before .before .before .before .before .before .before .before .before .before .before .before .before .before .args .budget) (l .n) _ (state (l .p) (l .a) (l .s) (l .b) (l .t) (l .v) (l .k) (l .q)) _ (l .mem) _ _ e ∙ i .5)
 
--- src/run.rt:48:35
 enum-told-3 : tie.Need-enum-told-3 Inv-loop μ-loop
 enum-told-3 c = search needs
 
--- src/run.rt:48:35
 same-length : tie.Need-same-length Inv-loop μ-loop
 same-length c = search needs
 
--- src/run.rt:48:35
 returns : tie.Need-returns Inv-loop μ-loop
 returns c = let l = c .before .before .before .before .before .before .before .before .before .before .before .before .before .before .before .before .loop in let i = l .inv in let told = c .enum-told3 .given .1 in let e = rw told at (c .before .before .before .before .before .before .turn .ensures .0) in rw told (run-not-held (c .before .before .before .before .before .before .before .before .before .before .before .before .before .before .before .before .before .before .args .budget) (l .n) _ (state (l .p) (l .a) (l .s) (l .b) (l .t) (l .v) (l .k) (l .q)) _ (l .mem) _ _ e ∙ i .5)
 
--- src/run.rt:49:40
 enum-told-4 : tie.Need-enum-told-4 Inv-loop μ-loop
 enum-told-4 c = search needs
 
--- src/run.rt:49:40
 same-length-2 : tie.Need-same-length-2 Inv-loop μ-loop
 same-length-2 c = search needs
 
--- src/run.rt:49:40
 returns-2 : tie.Need-returns-2 Inv-loop μ-loop
 returns-2 c = let l = c .before .before .before .before .before .before .before .before .before .before .before .before .before .before .before .before .loop in let i = l .inv in let told = c .enum-told4 .given .1 in let e = rw told at (c .before .before .before .before .before .before .turn .ensures .0) in rw told (run-unfetched (c .before .before .before .before .before .before .before .before .before .before .before .before .before .before .before .before .before .before .args .budget) (l .n) _ (state (l .p) (l .a) (l .s) (l .b) (l .t) (l .v) (l .k) (l .q)) _ (l .mem) _ _ e ∙ i .5)
 
--- src/run.rt:14:1
 same-length-3 : tie.Need-same-length-3 Inv-loop μ-loop
 same-length-3 c = search needs
 
--- src/run.rt:14:1
 returns-3 : tie.Need-returns-3 Inv-loop μ-loop
 returns-3 c = let l = c .before .loop in let i = l .inv in run-spent (c .before .before .before .args .budget) (l .n) (state (l .p) (l .a) (l .s) (l .b) (l .t) (l .v) (l .k) (l .q)) (l .mem) (c .loop-test .left) ∙ i .5
 

@@ -1,0 +1,207 @@
+"""The figures of `run`, as a table for the screen, as a page and as a picture."""
+
+import os
+from dataclasses import dataclass, field
+
+WHAT = {
+    "scalar": "a random number generator in A and S registers",
+    "memory": "words read, added to and stored, through A and S registers",
+    "vector": "sums, logic and merges of whole vectors, read and stored",
+    "blocks": "64 B or T registers read or stored at once",
+    "search": "a table searched for its own words, drawn at random",
+    "hash": "shifts, sums and exclusive ors of S registers",
+}
+
+
+@dataclass
+class Row:
+    """A workload: host instructions and nanoseconds for a step, of both programs."""
+
+    name: str
+    count: float
+    limit: int
+    peer_count: float
+    took: float
+    peer_took: float
+
+    @property
+    def ratio(self):
+        return self.took / self.peer_took
+
+
+@dataclass
+class Library:
+    """Host instructions for a step of a pair run, by the length of its turns; for
+    a step of a run and for a start and one step, on the smallest and the largest memory."""
+
+    pair: dict
+    run: list
+    call: list
+
+
+@dataclass
+class Figures:
+    rows: list
+    library: Library
+    inlining: int
+    limits: dict
+    over: list = field(default_factory=list)
+
+
+def text(figures):
+    """What is printed."""
+    slowest = figures.limits["time"]
+    lines = [
+        "            host instructions a step           nanoseconds a step",
+        "workload      ours  limit    peer  ratio      ours    peer  ratio  limit",
+    ]
+    for row in figures.rows:
+        lines.append(
+            f"{row.name:10}{row.count:8.2f}{row.limit:7}{row.peer_count:8.2f}"
+            f"{row.count / row.peer_count:7.2f}{row.took:10.2f}{row.peer_took:8.2f}"
+            f"{row.ratio:7.2f}{slowest:7.1f}"
+        )
+    if figures.library:
+        lines += ["", "through the library, host instructions:"]
+        lines += [f"{what:44}{cost}" for what, cost in calls(figures)]
+    if figures.inlining is not None:
+        spare = figures.limits["spare"]
+        lines += ["", f"left of the inliner's budget: {figures.inlining:,}, at least {spare:,}"]
+    lines += [""] + [f"OVER: {line}" for line in figures.over]
+    return "\n".join(lines + ["over a limit" if figures.over else "all within their limits"])
+
+
+def calls(figures):
+    """What the calls of the library cost, as pairs of texts."""
+    used = figures.library
+    alone = [row.count for row in figures.rows if row.name in ("scalar", "memory")]
+    for turn, cost in used.pair.items():
+        yield f"a step of a pair run, turns of {turn}", f"{cost:.1f}"
+    yield "the same two programs alone", f"{sum(alone) / 2:.1f}"
+    for size, step, call in zip(("4,096", "4,194,304"), used.run, used.call):
+        yield f"a step of a run on {size} words", f"{step:.2f}"
+        yield f"a start and one step on {size} words", f"{call:,.0f}"
+
+
+def write(figures, folder):
+    """Writes the page and the picture."""
+    for name, content in (("SPEED.md", markdown(figures)), ("speed.svg", picture(figures))):
+        with open(os.path.join(folder, name), "w") as file:
+            file.write(content)
+
+
+def markdown(figures):
+    slowest = figures.limits["time"]
+    parts = [
+        "# Speed",
+        "`bench/run` makes this page and its picture, and fails if a limit is exceeded.",
+        "![Time of a step beside the peer's, by workload](speed.svg)",
+        "A bar is the time of a step divided by that of the peer, the independent interpreter in"
+        " `trials/peer`, written by hand in safe Rust. Shorter is faster.",
+        "## Workloads",
+        workloads(figures),
+    ]
+    if figures.over:
+        parts.append("**Over a limit:**\n\n" + "\n".join(f"- {line}" for line in figures.over))
+    parts.append(
+        f"""## How it is measured
+
+**Workloads.** Each is a case sheet in `bench`, a loop that never ends, so that the budget alone stops it. Before it is measured, both programs must give the same answer to it.
+
+**Host instructions.** `valgrind --tool=callgrind` counts the instructions of a whole run of `sheet`, with 200,000 and with 1,000,000 steps; the difference is divided by 800,000. What is done once, as reading the sheet, drops out. The count depends on the compiler, but not on the machine's load or make.
+
+**Time.** Processor time, as the system counts it, of a run of 1,000,000 steps less that of a run of none. Both programs run in turn, many rounds, and the least of each counts. The ratio may be at most {slowest}. It differs a little from one machine to another.
+
+**Builds.** Both are compiled for any x86-64 processor with full optimisation, the peer as one unit with its library. The peer tests the field rule for each word of a block or vector, which costs it most there; the limits of host instructions do not depend on it."""
+    )
+    if figures.library:
+        table = "\n".join(f"| {what} | {cost} |" for what, cost in calls(figures))
+        parts.append(
+            f"""## Through the library
+
+| what | host instructions |
+|---|---|
+{table}
+
+`bench/library.c` makes these calls. Counts are differences of two runs as above: 200,000 and 1,000,000 steps, or 2,000 and 10,000 calls.
+
+- **Pair run.** One processor runs the program of `scalar`, the other that of `memory`, in one memory. The schedule changes processor after each step, or after each two. It is called for 50,000 steps at a time, and checking the states and the schedule counts too.
+- **Size of memory.** The sheet `memory` runs on the smallest memory and on the largest. Neither a step nor a call may cost over 1 in 100 more on the largest."""
+        )
+    if figures.inlining is not None:
+        parts.append(
+            f"""## The inliner's budget
+
+All of a step but the loops over elements is inlined into one loop. The compiler does that for a function with one call as long as its cost is under a budget of 15,250 units; over it, a step would cost more than twice as much. Where it is tightest, {figures.inlining:,} units are left, and at least {figures.limits['spare']:,} are wanted. The figure comes from the compiler's own remarks (`-Rpass=inline`)."""
+        )
+    return "\n\n".join(parts) + "\n"
+
+
+def workloads(figures):
+    slowest = figures.limits["time"]
+    lines = [
+        "| workload | what it does | host instructions a step | at most | the peer's"
+        " | time beside the peer's | at most |",
+        "|---|---|---:|---:|---:|---:|---:|",
+    ]
+    for row in figures.rows:
+        lines.append(
+            f"| `{row.name}` | {WHAT[row.name]} | {row.count:.1f} | {row.limit}"
+            f" | {row.peer_count:.1f} | {row.ratio:.2f} | {slowest} |"
+        )
+    return "\n".join(lines)
+
+
+# The picture.
+
+LEFT, UNIT, ROW, TOP = 70, 240, 26, 34
+
+
+def picture(figures):
+    """A bar for each workload, with lines at the peer and at the limit."""
+    slowest = figures.limits["time"]
+    most = max([slowest] + [row.ratio for row in figures.rows])
+    width = round(LEFT + most * UNIT + 60)
+    bottom = TOP + ROW * len(figures.rows)
+    marks = "".join(mark(at, word, bottom) for at, word in ((1, "peer"), (slowest, "limit")))
+    bars = "".join(bar(n, row) for n, row in enumerate(figures.rows))
+    return HEAD.format(width=width, height=bottom + 12) + marks + bars + "</svg>\n"
+
+
+def mark(at, word, bottom):
+    x = LEFT + at * UNIT
+    return (
+        f'<line class="mark" x1="{x:g}" x2="{x:g}" y1="{TOP - 6}" y2="{bottom}"/>\n'
+        f'<text class="middle" x="{x:g}" y="{TOP - 12}">{word} {at:g}</text>\n'
+    )
+
+
+def bar(n, row):
+    top = TOP + ROW * n
+    end = LEFT + row.ratio * UNIT
+    return (
+        f'<text class="end" x="{LEFT - 8}" y="{top + 17}">{row.name}</text>\n'
+        f'<rect class="bar" x="{LEFT}" y="{top + 4}" width="{end - LEFT:.1f}" height="18" rx="2"/>\n'
+        f'<text class="number" x="{end + 6:.1f}" y="{top + 17}">{row.ratio:.2f}</text>\n'
+    )
+
+
+HEAD = """<svg xmlns="http://www.w3.org/2000/svg" width="{width}" height="{height}" viewBox="0 0 {width} {height}" role="img">
+<title>Time of a step beside the peer's</title>
+<style>
+text {{ font: 13px sans-serif; fill: #24292f }}
+.back {{ fill: #ffffff }}
+.bar {{ fill: #2f7bbf }}
+.mark {{ stroke: #8c959f; stroke-dasharray: 3 3 }}
+.end {{ text-anchor: end }}
+.middle {{ text-anchor: middle }}
+.number {{ font-weight: bold; paint-order: stroke; stroke: #ffffff; stroke-width: 4px }}
+@media (prefers-color-scheme: dark) {{
+text {{ fill: #e6edf3 }}
+.back {{ fill: #0d1117 }}
+.bar {{ fill: #58a6ff }}
+.number {{ stroke: #0d1117 }}
+}}
+</style>
+<rect class="back" width="{width}" height="{height}" rx="6"/>
+"""
