@@ -10,31 +10,38 @@ WHAT = {
     "blocks": "64 B or T registers read or stored at once",
     "search": "a table searched for its own words, drawn at random",
     "hash": "shifts, sums and exclusive ors of S registers",
+    "pair, turns of 64": "`scalar` and `memory` at once, through the library, 64 steps of each in turn",
+    "pair, turns of 2": "the same, 2 steps of each in turn",
+    "pair, turns of 1": "the same, changing at each step",
 }
 
 
 @dataclass
 class Row:
-    """A workload: host instructions and nanoseconds for a step, of both programs."""
+    """A workload: host instructions and nanoseconds for a step, ours and the peer's;
+    the most instructions, and the most time beside the peer's, if there are limits."""
 
     name: str
-    count: float
     limit: int
-    peer_count: float
-    took: float
-    peer_took: float
+    slowest: float
+    counts: list
+    times: list
+
+    @property
+    def count(self):
+        return self.counts[0]
 
     @property
     def ratio(self):
-        return self.took / self.peer_took
+        return self.times[0] / self.times[1]
 
 
 @dataclass
 class Library:
-    """Host instructions for a step of a pair run, by the length of its turns; for
-    a step of a run and for a start and one step, on the smallest and the largest memory."""
+    """Pair runs; host instructions for a step of a run and for a start and one step,
+    on the smallest and the largest memory."""
 
-    pair: dict
+    pair: list
     run: list
     call: list
 
@@ -44,29 +51,32 @@ class Figures:
     rows: list
     library: Library
     inlining: int
-    limits: dict
+    spare: int
     over: list = field(default_factory=list)
+
+    @property
+    def all_rows(self):
+        return self.rows + (self.library.pair if self.library else [])
 
 
 def text(figures):
     """What is printed."""
-    slowest = figures.limits["time"]
     lines = [
-        "            host instructions a step           nanoseconds a step",
-        "workload      ours  limit    peer  ratio      ours    peer  ratio  limit",
+        "                  host instructions a step           nanoseconds a step",
+        "workload            ours  limit    peer  ratio      ours    peer  ratio  limit",
     ]
-    for row in figures.rows:
+    for row in figures.all_rows:
+        ours, peers = row.counts
         lines.append(
-            f"{row.name:10}{row.count:8.2f}{row.limit:7}{row.peer_count:8.2f}"
-            f"{row.count / row.peer_count:7.2f}{row.took:10.2f}{row.peer_took:8.2f}"
-            f"{row.ratio:7.2f}{slowest:7.1f}"
+            f"{row.name:18}{ours:6.1f}{row.limit or '':7}{peers:8.1f}{ours / peers:7.2f}"
+            f"{row.times[0]:10.2f}{row.times[1]:8.2f}{row.ratio:7.2f}{row.slowest or '':7}"
         )
     if figures.library:
         lines += ["", "through the library, host instructions:"]
         lines += [f"{what:44}{cost}" for what, cost in calls(figures)]
     if figures.inlining is not None:
-        spare = figures.limits["spare"]
-        lines += ["", f"left of the inliner's budget: {figures.inlining:,}, at least {spare:,}"]
+        left = f"left of the inliner's budget: {figures.inlining:,}"
+        lines += ["", f"{left}, at least {figures.spare:,}"]
     lines += [""] + [f"OVER: {line}" for line in figures.over]
     return "\n".join(lines + ["over a limit" if figures.over else "all within their limits"])
 
@@ -74,10 +84,6 @@ def text(figures):
 def calls(figures):
     """What the calls of the library cost, as pairs of texts."""
     used = figures.library
-    alone = [row.count for row in figures.rows if row.name in ("scalar", "memory")]
-    for turn, cost in used.pair.items():
-        yield f"a step of a pair run, turns of {turn}", f"{cost:.1f}"
-    yield "the same two programs alone", f"{sum(alone) / 2:.1f}"
     for size, step, call in zip(("4,096", "4,194,304"), used.run, used.call):
         yield f"a step of a run on {size} words", f"{step:.2f}"
         yield f"a start and one step on {size} words", f"{call:,.0f}"
@@ -91,7 +97,6 @@ def write(figures, folder):
 
 
 def markdown(figures):
-    slowest = figures.limits["time"]
     parts = [
         "# Speed",
         "`bench/run` makes this page and its picture, and fails if a limit is exceeded.",
@@ -101,18 +106,24 @@ def markdown(figures):
         "## Workloads",
         workloads(figures),
     ]
+    if figures.library:
+        parts.append(
+            "A pair run takes the bytes of its schedule that are alike and stand together as one"
+            " turn. To change processor costs about as much as two steps, which shows where it is"
+            " done often; those rows have no limit."
+        )
     if figures.over:
         parts.append("**Over a limit:**\n\n" + "\n".join(f"- {line}" for line in figures.over))
     parts.append(
-        f"""## How it is measured
+        """## How it is measured
 
 **Workloads.** Each is a case sheet in `bench`, a loop that never ends, so that the budget alone stops it. Before it is measured, both programs must give the same answer to it.
 
 **Host instructions.** `valgrind --tool=callgrind` counts the instructions of a whole run of `sheet`, with 200,000 and with 1,000,000 steps; the difference is divided by 800,000. What is done once, as reading the sheet, drops out. The count depends on the compiler, but not on the machine's load or make.
 
-**Time.** Processor time, as the system counts it, of a run of 1,000,000 steps less that of a run of none. Both programs run in turn, many rounds, and the least of each counts. The ratio may be at most {slowest}. It differs a little from one machine to another.
+**Time.** Processor time, as the system counts it, of a run of 1,000,000 steps less that of a run of none. Both programs run in turn, many rounds, and the least of each counts. The ratio differs a little from one machine to another.
 
-**Builds.** Both are compiled for any x86-64 processor with full optimisation, the peer as one unit with its library. The peer tests the field rule for each word of a block or vector, which costs it most there; the limits of host instructions do not depend on it."""
+**Builds.** Both are compiled for any x86-64 processor with full optimisation, the peer as one unit with its library. Both move the words of a block or vector at once where they stand in a row inside of their field, and else test each."""
     )
     if figures.library:
         table = "\n".join(f"| {what} | {cost} |" for what, cost in calls(figures))
@@ -125,46 +136,45 @@ def markdown(figures):
 
 `bench/library.c` makes these calls. Counts are differences of two runs as above: 200,000 and 1,000,000 steps, or 2,000 and 10,000 calls.
 
-- **Pair run.** One processor runs the program of `scalar`, the other that of `memory`, in one memory. The schedule changes processor after each step, or after each two. It is called for 50,000 steps at a time, and checking the states and the schedule counts too.
-- **Size of memory.** The sheet `memory` runs on the smallest memory and on the largest. Neither a step nor a call may cost over 1 in 100 more on the largest."""
+The sheet `memory` runs on the smallest memory and on the largest. Neither a step nor a call may cost over 1 in 100 more on the largest. A call copies a processor's words in and out and checks them, a run once for all its steps."""
         )
     if figures.inlining is not None:
         parts.append(
             f"""## The inliner's budget
 
-All of a step but the loops over elements is inlined into one loop. The compiler does that for a function with one call as long as its cost is under a budget of 15,250 units; over it, a step would cost more than twice as much. Where it is tightest, {figures.inlining:,} units are left, and at least {figures.limits['spare']:,} are wanted. The figure comes from the compiler's own remarks (`-Rpass=inline`)."""
+A step is inlined into the loop of a burst. The compiler does that for a function with one call as long as its cost is under a budget of 15,250 units; over it, a step would cost more than twice as much. Where it is tightest, {figures.inlining:,} units are left, and at least {figures.spare:,} are wanted. The figure comes from the compiler's own remarks (`-Rpass=inline`)."""
         )
     return "\n\n".join(parts) + "\n"
 
 
 def workloads(figures):
-    slowest = figures.limits["time"]
     lines = [
         "| workload | what it does | host instructions a step | at most | the peer's"
         " | time beside the peer's | at most |",
         "|---|---|---:|---:|---:|---:|---:|",
     ]
-    for row in figures.rows:
+    for row in figures.all_rows:
         lines.append(
-            f"| `{row.name}` | {WHAT[row.name]} | {row.count:.1f} | {row.limit}"
-            f" | {row.peer_count:.1f} | {row.ratio:.2f} | {slowest} |"
+            f"| `{row.name}` | {WHAT[row.name]} | {row.count:.1f} | {row.limit or ''}"
+            f" | {row.counts[1]:.1f} | {row.ratio:.2f} | {row.slowest or ''} |"
         )
     return "\n".join(lines)
 
 
 # The picture.
 
-LEFT, UNIT, ROW, TOP = 70, 240, 26, 34
+LEFT, UNIT, ROW, TOP = 130, 200, 26, 34
 
 
 def picture(figures):
     """A bar for each workload, with lines at the peer and at the limit."""
-    slowest = figures.limits["time"]
-    most = max([slowest] + [row.ratio for row in figures.rows])
+    rows = figures.all_rows
+    slowest = max(row.slowest for row in rows if row.slowest)
+    most = max([slowest] + [row.ratio for row in rows])
     width = round(LEFT + most * UNIT + 60)
-    bottom = TOP + ROW * len(figures.rows)
+    bottom = TOP + ROW * len(rows)
     marks = "".join(mark(at, word, bottom) for at, word in ((1, "peer"), (slowest, "limit")))
-    bars = "".join(bar(n, row) for n, row in enumerate(figures.rows))
+    bars = "".join(bar(n, row) for n, row in enumerate(rows))
     return HEAD.format(width=width, height=bottom + 12) + marks + bars + "</svg>\n"
 
 

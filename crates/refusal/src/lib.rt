@@ -1,8 +1,10 @@
 // The refusal numbers of document 01, each call checking its own in that order; 0 is none.
 ghost use mathlib.Core.Path.{_≡_};
+ghost use mathlib.Core.List.{List};
+ghost use Prim.Native.Nat.{ℕ};
 ghost use Rattle.machine.specs.Refusal.{below, memoryFits, registersFit, frameFits, stateFits, startRefusal, stepRefusal, runRefusal, pairRefusal};
 use machine::Frame;
-use machine::Registers;
+use machine::ParcelAddr;
 use machine::State;
 
 // Whether each number is below n.
@@ -40,30 +42,28 @@ pub fn memory_fits(words: usize) -> bool
     4096 <= words && words <= 4194304
 }
 
-// Whether each number fits its register.
-pub fn registers_fit(r: Registers) -> bool
-    ensures { λ y. ⌜ y ≡ registersFit r ⌝ }
+// Whether each number fits its register: of the files only A and B can hold one that does not, so only these are handed over.
+pub fn registers_fit(a: [u64; 8], b: [u64; 64], xa: u64, vl: u64, ior: u64, bdm: u64) -> bool
+    ensures { λ y. ⌜ ((s t v : List ℕ) (vm : ℕ) → y ≡ registersFit (record { a = a; s = s; b = b; t = t; v = v; xa = xa; vl = vl; vm = vm; ior = ior; bdm = bdm })) ⌝ }
 {
-    let a = r.a;
-    let b = r.b;
-    let xa = [r.xa];
-    let modes = [r.ior, r.bdm];
+    let narrow = [xa];
+    let modes = [ior, bdm];
     if !all_below(&a, 16777216) {
         return false;
     }
     if !all_below(&b, 16777216) {
         return false;
     }
-    if !all_below(&xa, 256) {
+    if !all_below(&narrow, 256) {
         return false;
     }
     if !all_below(&modes, 2) {
         return false;
     }
-    if r.vl < 1 {
+    if vl < 1 {
         return false;
     }
-    r.vl <= 64
+    vl <= 64
 }
 
 pub fn frame_fits(fr: Frame) -> bool
@@ -81,16 +81,23 @@ pub fn frame_fits(fr: Frame) -> bool
     all_below(&cln, 4)
 }
 
-pub fn state_fits(st: State) -> bool
-    ensures { λ y. ⌜ y ≡ stateFits st ⌝ }
+// The same of a whole processor.
+pub fn numbers_fit(
+    p: ParcelAddr,
+    a: [u64; 8],
+    b: [u64; 64],
+    xa: u64,
+    vl: u64,
+    ior: u64,
+    bdm: u64,
+    fr: Frame,
+) -> bool
+    ensures { λ y. ⌜ ((s t v : List ℕ) (vm : ℕ) → y ≡ stateFits (record { p = p; registers = record { a = a; s = s; b = b; t = t; v = v; xa = xa; vl = vl; vm = vm; ior = ior; bdm = bdm }; frame = fr })) ⌝ }
 {
-    let p = st.p;
-    let r = st.registers;
-    let fr = st.frame;
     if 16777216 <= p.0 {
         return false;
     }
-    if !registers_fit(r) {
+    if !registers_fit(a, b, xa, vl, ior, bdm) {
         return false;
     }
     frame_fits(fr)
@@ -123,7 +130,11 @@ pub fn of_step(st: State, words: usize) -> u64
     if 1 < fr.processor {
         return 4;
     }
-    if !state_fits(st) {
+    let r = st.registers;
+    let p = st.p;
+    let a = r.a;
+    let b = r.b;
+    if !numbers_fit(p, a, b, r.xa, r.vl, r.ior, r.bdm, fr) {
         return 7;
     }
     0
@@ -143,7 +154,11 @@ pub fn of_run(st: State, words: usize, budget: u64) -> u64
     if 1 < fr.processor {
         return 4;
     }
-    if !state_fits(st) {
+    let r = st.registers;
+    let p = st.p;
+    let a = r.a;
+    let b = r.b;
+    if !numbers_fit(p, a, b, r.xa, r.vl, r.ior, r.bdm, fr) {
         return 7;
     }
     0
@@ -170,10 +185,18 @@ pub fn of_pair(first: State, second: State, words: usize, schedule: &[u8]) -> u6
     if !bytes_below(schedule, 2) {
         return 6;
     }
-    if !state_fits(first) {
+    let r = first.registers;
+    let p = first.p;
+    let a = r.a;
+    let b = r.b;
+    if !numbers_fit(p, a, b, r.xa, r.vl, r.ior, r.bdm, x) {
         return 7;
     }
-    if !state_fits(second) {
+    let r1 = second.registers;
+    let p1 = second.p;
+    let a1 = r1.a;
+    let b1 = r1.b;
+    if !numbers_fit(p1, a1, b1, r1.xa, r1.vl, r1.ior, r1.bdm, y) {
         return 7;
     }
     0

@@ -9,7 +9,7 @@ use Rattle.machine.proofs.Work.{the-type}
 use mathlib.Core.List.{List, [], _∷_}
 use lib.ListN.{length, getD, drop, drop-of-length-le}
 use lib.Seq.{drop-cons}
-use borrow.Author.Tests.{ne-eqb}
+use lib.Dec.{eqb·suc-zero}
 use native.Mathlib.Omega.{arith}
 use native.Mathlib.Numerals.{add-one}
 use Rattle.machine.specs.declared.Frame.{Frame}
@@ -26,7 +26,7 @@ use Rattle.machine.specs.State.{user}
 use Rattle.machine.specs.Step.{Out, out, exchange, inUserMode, finish, finishOf, stepOf}
 use Rattle.machine.specs.Run.{Ended, ended, goesOn, runOf, PairEnded, pairEnded, pairGoesOn, pairOf}
 use Rattle.laws.proofs.Laws.{Narrow, RegistersOk, Idle, Stop, work-p, work-ok, work-length, work-idle, step-stop}
-use Rattle.turns.specs.Turn.{Burst, burst, onNext, burstOf, onStepped, turnOf, Counts, soFar, stepped}
+use Rattle.turns.specs.Turn.{Burst, burst, onNext, burstOf, onStepped, counted, endOf, turnOf, Counts, soFar, stepped}
 
 -- what is left of a burst, and so of a turn, after one more step
 burst-turn : (fr : Frame) (budget n : ℕ) (p : ParcelAddr) (r : Registers) (mem : List ℕ) → n < budget
@@ -48,14 +48,21 @@ burst-spent fr budget n p r mem h = ap (λ (k : ℕ). burstOf fr k n p r mem) e
     e : 0 ≡ budget - n
     e = omega arith
 
--- whatever does not go on ends it: the tags of Work but that of Next
-ends-there : (w : Work) (rest : ParcelAddr → Burst) (end : Work → Burst) → OneOf (1 ∷ 2 ∷ 3 ∷ 4 ∷ 5 ∷ 6 ∷ []) (tagOf the-type w) → onNext w rest end ≡ end w
-ends-there (Next q) rest end (inl e) = absurd (omega (arith, e))
-ends-there (Next q) rest end (inr (inl e)) = absurd (omega (arith, e))
-ends-there (Next q) rest end (inr (inr (inl e))) = absurd (omega (arith, e))
-ends-there (Next q) rest end (inr (inr (inr (inl e)))) = absurd (omega (arith, e))
-ends-there (Next q) rest end (inr (inr (inr (inr (inl e))))) = absurd (omega (arith, e))
-ends-there (Next q) rest end (inr (inr (inr (inr (inr e))))) = absurd (omega (arith, e))
+-- the tags of Work but that of Next
+abbrev NoNext : Work → Type 0
+NoNext w = OneOf (1 ∷ 2 ∷ 3 ∷ 4 ∷ 5 ∷ 6 ∷ []) (tagOf the-type w)
+
+no-next : (q : ParcelAddr) → NoNext (Next q) → ⊥
+no-next q (inl e) = omega (arith, e)
+no-next q (inr (inl e)) = omega (arith, e)
+no-next q (inr (inr (inl e))) = omega (arith, e)
+no-next q (inr (inr (inr (inl e)))) = omega (arith, e)
+no-next q (inr (inr (inr (inr (inl e))))) = omega (arith, e)
+no-next q (inr (inr (inr (inr (inr e))))) = omega (arith, e)
+
+-- whatever does not go on ends it
+ends-there : (w : Work) (rest : ParcelAddr → Burst) (end : Work → Burst) → NoNext w → onNext w rest end ≡ end w
+ends-there (Next q) rest end h = absurd (no-next q h)
 ends-there (NormalExit q) rest end h = refl
 ends-there (ErrorExit q) rest end h = refl
 ends-there (OperandRange q) rest end h = refl
@@ -71,7 +78,7 @@ module _ (fr : Frame) (budget n : ℕ) (p : ParcelAddr) (r r′ : Registers) (me
   pub burst-on : (q : ParcelAddr) → n < budget → w ≡ Next q → burstOf fr (budget - (n + 1)) (n + 1) q r′ mem′ ≡ burstOf fr (budget - n) n p r mem
   burst-on q h e = sym (burst-turn fr budget n p r mem h ∙ rw (← did, e))
 
-  pub burst-ends : n < budget → OneOf (1 ∷ 2 ∷ 3 ∷ 4 ∷ 5 ∷ 6 ∷ []) (tagOf the-type w) → burst p n w r′ mem′ ≡ burstOf fr (budget - n) n p r mem
+  pub burst-ends : n < budget → NoNext w → burst p n w r′ mem′ ≡ burstOf fr (budget - n) n p r mem
   burst-ends h e =
       sym (burst-turn fr budget n p r mem h ∙ rw (← did) (ends-there w (λ q. burstOf fr (budget - (n + 1)) (n + 1) q r′ mem′) (λ u. burst p n u r′ mem′) e))
 
@@ -84,19 +91,12 @@ module _ (fr : Frame) (budget n : ℕ) (p : ParcelAddr) (r r′ : Registers) (me
   pub did-length : length mem′ ≡ length mem
   did-length = rw (← did) at (work-length fr r (p .0) mem)
 
--- the end of a turn: the burst's last work finished, and an exchange counted
-abbrev pub endOf : ℕ → Out → Ended
-endOf n o = onStepped (o .answer) n (ended (o .answer) n (o .state) (o .mem)) (λ k. ended (o .answer) k (o .state) (o .mem))
-
-abbrev pub finished : Frame → Burst → Out
-finished fr b = finish (record { p = b .p; registers = b .registers; frame = fr }) (b .work) (b .registers) (b .mem)
-
 -- one step of both, whose work w left the registers r′
 one-more : (fr : Frame) (budget n : ℕ) (p : ParcelAddr) (r r′ : Registers) (mem : List ℕ) (w : Work) → (Idle w → r′ ≡ r)
-    → ((q : ParcelAddr) → endOf (burstOf fr budget (suc n) q r′ mem .steps) (finished fr (burstOf fr budget (suc n) q r′ mem)) ≡ turnOf budget (suc n) (record { p = q; registers = r′; frame = fr }) mem)
+    → ((q : ParcelAddr) → endOf fr (burstOf fr budget (suc n) q r′ mem) ≡ turnOf budget (suc n) (record { p = q; registers = r′; frame = fr }) mem)
     → let b : Burst = onNext w (λ q. burstOf fr budget (suc n) q r′ mem) (λ u. burst p n u r′ mem) in
     let o : Out = finish (record { p = p; registers = r; frame = fr }) w r′ mem in
-    endOf (b .steps) (finished fr b) ≡ onStepped (o .answer) n (turnOf budget (suc n) (o .state) (o .mem)) (λ k. ended (o .answer) k (o .state) (o .mem))
+    endOf fr b ≡ onStepped (o .answer) n (turnOf budget (suc n) (o .state) (o .mem)) (λ k. ended (o .answer) k (o .state) (o .mem))
 unfolding finish exchange
 one-more fr budget n p r r′ mem (Next q) i rest = rest q
 one-more fr budget n p r r′ mem (NormalExit q) i rest = refl
@@ -108,7 +108,7 @@ one-more fr budget n p r r′ mem Unfetched i rest = rw (i tt)
 
 -- a burst, then its finish, is a turn
 turn-is : (fr : Frame) (budget n : ℕ) (p : ParcelAddr) (r : Registers) (mem : List ℕ)
-    → endOf (burstOf fr budget n p r mem .steps) (finished fr (burstOf fr budget n p r mem)) ≡ turnOf budget n (record { p = p; registers = r; frame = fr }) mem
+    → endOf fr (burstOf fr budget n p r mem) ≡ turnOf budget n (record { p = p; registers = r; frame = fr }) mem
 unfolding burstOf turnOf stepOf finishOf finish
 turn-is fr zero n p r mem = refl
 turn-is fr (suc budget) n p r mem =
@@ -152,21 +152,46 @@ burst-keeps fr (suc budget) n most len p r mem h k m l =
 pub burst-ok : (fr : Frame) (budget : ℕ) (p : ParcelAddr) (r : Registers) (mem : List ℕ) (b : Burst) → b ≡ burstOf fr budget 0 p r mem → p .0 < 2 ^ 24 → RegistersOk r → BurstOk b budget (length mem)
 burst-ok fr budget p r mem b e h k = rw e (burst-keeps fr budget 0 budget (length mem) p r mem h k refl (omega arith))
 
--- a turn from what its burst and its finish gave
-pub turn-ends : (fr : Frame) (budget : ℕ) (p : ParcelAddr) (r : Registers) (mem : List ℕ) (b : Burst) (o : Out)
-    → b ≡ burstOf fr budget 0 p r mem → o ≡ finished fr b → endOf (b .steps) o ≡ turnOf budget 0 (record { p = p; registers = r; frame = fr }) mem
-turn-ends fr budget p r mem b o e f = rw (f, e) (turn-is fr budget 0 p r mem)
+-- the end of a burst at a step that does more than step is not "stepped"
+not-stepped : (fr : Frame) (b : Burst) → NoNext (b .work) → stepped (endOf fr b .last) ≡ false
+unfolding finish exchange
+not-stepped fr b h = go (b .work) h
+  where
+    go : (w : Work) → NoNext w → stepped (endOf fr (burst (b .p) (b .steps) w (b .registers) (b .mem)) .last) ≡ false
+    go (Next q) h = absurd (no-next q h)
+    go (NormalExit q) h = refl
+    go (ErrorExit q) h = refl
+    go (OperandRange q) h = refl
+    go ProgramRange h = refl
+    go Unheld h = refl
+    go Unfetched h = refl
 
-pub end-stepped : (n : ℕ) (o : Out) → o .answer ≡ Stepped → ended (o .answer) n (o .state) (o .mem) ≡ endOf n o
+-- a turn from what its burst gave
+module _ (fr : Frame) (budget : ℕ) (p : ParcelAddr) (r : Registers) (mem : List ℕ) (b : Burst) (came : b ≡ burstOf fr budget 0 p r mem) where
+  pub turn-ends : endOf fr b ≡ turnOf budget 0 (record { p = p; registers = r; frame = fr }) mem
+  turn-ends = rw came (turn-is fr budget 0 p r mem)
+
+  -- where all its steps stepped
+  pub turn-stepped : (q : ParcelAddr) → b .work ≡ Next q
+      → ended Stepped (b .steps) (record { p = q; registers = b .registers; frame = fr }) (b .mem) ≡ turnOf budget 0 (record { p = p; registers = r; frame = fr }) mem
+  unfolding finish
+  turn-stepped q e = (rw e) ∙ turn-ends
+
+  -- where one did more
+  pub turn-left : (o : Answer) (k : ℕ) (st : State) (mem′ : List ℕ) → ended o k st mem′ ≡ endOf fr b → NoNext (b .work)
+      → (ended o k st mem′ ≡ turnOf budget 0 (record { p = p; registers = r; frame = fr }) mem) × (stepped o ≡ false)
+  turn-left o k st mem′ e h = (e ∙ turn-ends, ap (λ (x : Ended). stepped (x .last)) e ∙ not-stepped fr b h)
+
+pub end-stepped : (n : ℕ) (o : Out) → o .answer ≡ Stepped → ended (o .answer) n (o .state) (o .mem) ≡ counted n o
 end-stepped n o e = rw e
 
-pub end-exchanged : (n : ℕ) (o : Out) (flags : ℕ) → o .answer ≡ Exchanged flags → ended (o .answer) (n + 1) (o .state) (o .mem) ≡ endOf n o
+pub end-exchanged : (n : ℕ) (o : Out) (flags : ℕ) → o .answer ≡ Exchanged flags → ended (o .answer) (n + 1) (o .state) (o .mem) ≡ counted n o
 end-exchanged n o flags e = rw (e, add-one n)
 
-pub end-not-held : (n : ℕ) (o : Out) (p : ParcelAddr) → o .answer ≡ NotHeld p → ended (o .answer) n (o .state) (o .mem) ≡ endOf n o
+pub end-not-held : (n : ℕ) (o : Out) (p : ParcelAddr) → o .answer ≡ NotHeld p → ended (o .answer) n (o .state) (o .mem) ≡ counted n o
 end-not-held n o p e = rw e
 
-pub end-unfetched : (n : ℕ) (o : Out) (p : ParcelAddr) → o .answer ≡ MonitorFetch p → ended (o .answer) n (o .state) (o .mem) ≡ endOf n o
+pub end-unfetched : (n : ℕ) (o : Out) (p : ParcelAddr) → o .answer ≡ MonitorFetch p → ended (o .answer) n (o .state) (o .mem) ≡ counted n o
 end-unfetched n o p e = rw e
 
 -- a turn of one step is that step
@@ -297,52 +322,82 @@ on-ended (Exchanged flags) rest end h = refl
 on-ended (NotHeld p) rest end h = refl
 on-ended (MonitorFetch p) rest end h = refl
 
--- a step of a pair run is a turn of one
-pair-turn : (n : ℕ) (o : Answer) (st : State) (mem : List ℕ) (rest : State → List ℕ → PairEnded) (end : List Answer → ℕ → State → List ℕ → PairEnded)
-    → let e : Ended = onStepped o 0 (ended Stepped 1 st mem) (λ k. ended o k st mem) in
-    pairGoesOn o n (rest st mem) (λ k. end (o ∷ []) k st mem) ≡ onPair (e .last) (rest (e .state) (e .mem)) (end (e .last ∷ []) (n + e .steps) (e .state) (e .mem))
-pair-turn n Stepped st mem rest end = refl
-pair-turn n (Exchanged flags) st mem rest end = let e : suc n ≡ n + 1 = omega arith in rw e
-pair-turn n (NotHeld p) st mem rest end = let e : n ≡ n + 0 = omega arith in ap (λ (k : ℕ). end (NotHeld p ∷ []) k st mem) e
-pair-turn n (MonitorFetch p) st mem rest end = let e : n ≡ n + 0 = omega arith in ap (λ (k : ℕ). end (MonitorFetch p ∷ []) k st mem) e
+-- at place i of its schedule the pair run P steps once; E is its end
+abbrev Steps : (ℕ → State → List ℕ → PairEnded) → (Answer → ℕ → State → List ℕ → PairEnded) → ℕ → Type 0
+Steps P E i = (st : State) (mem : List ℕ)
+    → let o : Out = stepOf st mem in
+    P i st mem ≡ pairGoesOn (o .answer) i (P (suc i) (o .state) (o .mem)) (λ k. E (o .answer) k (o .state) (o .mem))
 
-pair-first : (b : ℕ) (bytes : List ℕ) (l : List Answer) (n : ℕ) (x y : State) (mem : List ℕ) → b ≡ 0
-    → let e : Ended = turnOf 1 0 x mem in
-    pairOf (b ∷ bytes) l n x y mem ≡ onPair (e .last) (pairOf bytes (Stepped ∷ []) (suc n) (e .state) y (e .mem)) (pairEnded (e .last ∷ []) (n + e .steps) (e .state) y (e .mem))
-unfolding pairOf turnOf
-pair-first b bytes l n x y mem z =
-    let o = stepOf x mem in
-    rw z (pair-turn n (o .answer) (o .state) (o .mem) (λ st m. pairOf bytes (Stepped ∷ []) (suc n) st y m) (λ a k st m. pairEnded a k st y m))
+-- one processor steps at each of the m places from n on: that is a turn
+module _ (n m : ℕ) (P : ℕ → State → List ℕ → PairEnded) (E : Answer → ℕ → State → List ℕ → PairEnded) (each : (j : ℕ) → j < m → Steps P E (n + j)) where
+  abbrev pairAfter : Ended → PairEnded
+  pairAfter e = onPair (e .last) (P (n + m) (e .state) (e .mem)) (E (e .last) (n + e .steps) (e .state) (e .mem))
 
-pair-second : (b : ℕ) (bytes : List ℕ) (l : List Answer) (n : ℕ) (x y : State) (mem : List ℕ) → (b ≡ 0 → ⊥)
-    → let e : Ended = turnOf 1 0 y mem in
-    pairOf (b ∷ bytes) l n x y mem ≡ onPair (e .last) (pairOf bytes (Stepped ∷ []) (suc n) x (e .state) (e .mem)) (pairEnded (e .last ∷ []) (n + e .steps) x (e .state) (e .mem))
-unfolding pairOf turnOf
-pair-second zero bytes l n x y mem z = absurd (z refl)
-pair-second (suc b) bytes l n x y mem z =
-    let o = stepOf y mem in
-    pair-turn n (o .answer) (o .state) (o .mem) (λ st m. pairOf bytes (Stepped ∷ []) (suc n) x st m) (λ a k st m. pairEnded a k x st m)
+  pair-more : (i : ℕ) (o : Answer) (st : State) (mem : List ℕ) (rest : Ended) → P (n + suc i) st mem ≡ pairAfter rest
+      → pairGoesOn o (n + i) (P (suc (n + i)) st mem) (λ k. E o k st mem) ≡ pairAfter (onStepped o i rest (λ k. ended o k st mem))
+  pair-more i Stepped st mem rest h = let e : suc (n + i) ≡ n + suc i = omega arith in rw e h
+  pair-more i (Exchanged flags) st mem rest h = let e : suc (n + i) ≡ n + suc i = omega arith in rw e
+  pair-more i (NotHeld p) st mem rest h = refl
+  pair-more i (MonitorFetch p) st mem rest h = refl
 
-so-far : (n : ℕ) → soFar (n + 1) ≡ Stepped ∷ []
-so-far n = rw (ne-eqb (n + 1) 0 (λ e. omega arith))
+  pair-from : (b i : ℕ) (st : State) (mem : List ℕ) → i + b ≡ m → P (n + i) st mem ≡ pairAfter (turnOf b i st mem)
+  unfolding turnOf
+  pair-from zero i st mem h = let e : i ≡ m = omega arith in rw e
+  pair-from (suc b) i st mem h =
+      let o = stepOf st mem in
+      each i (omega arith) st mem
+      ∙ pair-more i (o .answer) (o .state) (o .mem) (turnOf b (suc i) (o .state) (o .mem)) (pair-from b (suc i) (o .state) (o .mem) (omega arith))
 
--- byte n of a schedule: the turn that it asks for stepped, or ended the pair run
-module _ (bytes : List ℕ) (n : ℕ) (h : n < length bytes) (x y : State) (mem : List ℕ) (o : Answer) (k : ℕ) (st : State) (mem′ : List ℕ) where
-  pub first-on : getD bytes n 0 ≡ 0 → ended o k st mem′ ≡ turnOf 1 0 x mem → stepped o ≡ true
-      → pairOf (drop (n + 1) bytes) (soFar (n + 1)) (n + 1) st y mem′ ≡ pairOf (drop n bytes) (soFar n) n x y mem
-  first-on z e g = rw (so-far n, add-one n, drop-cons bytes n 0 h) (sym (pair-first _ _ (soFar n) n x y mem z ∙ rw (← e) (on-stepped o _ _ g)))
+  pair-turn : (st : State) (mem : List ℕ) → P n st mem ≡ pairAfter (turnOf m 0 st mem)
+  pair-turn st mem = let e : n + 0 ≡ n = omega arith in rw e at (pair-from m 0 st mem (omega arith))
 
-  pub first-ends : getD bytes n 0 ≡ 0 → ended o k st mem′ ≡ turnOf 1 0 x mem → stepped o ≡ false
-      → pairEnded (o ∷ []) (n + k) st y mem′ ≡ pairOf (drop n bytes) (soFar n) n x y mem
-  first-ends z e g = rw (drop-cons bytes n 0 h) (sym (pair-first _ _ (soFar n) n x y mem z ∙ rw (← e) (on-ended o _ _ g)))
+  pair-on : (st st′ : State) (mem mem′ : List ℕ) (o : Answer) (k : ℕ) → ended o k st′ mem′ ≡ turnOf m 0 st mem → stepped o ≡ true → P (n + m) st′ mem′ ≡ P n st mem
+  pair-on st st′ mem mem′ o k e g = sym (pair-turn st mem ∙ rw (← e) (on-stepped o _ _ g))
 
-  pub second-on : (getD bytes n 0 ≡ 0 → ⊥) → ended o k st mem′ ≡ turnOf 1 0 y mem → stepped o ≡ true
-      → pairOf (drop (n + 1) bytes) (soFar (n + 1)) (n + 1) x st mem′ ≡ pairOf (drop n bytes) (soFar n) n x y mem
-  second-on z e g = rw (so-far n, add-one n, drop-cons bytes n 0 h) (sym (pair-second _ _ (soFar n) n x y mem z ∙ rw (← e) (on-stepped o _ _ g)))
+  pair-ends : (st st′ : State) (mem mem′ : List ℕ) (o : Answer) (k : ℕ) → ended o k st′ mem′ ≡ turnOf m 0 st mem → stepped o ≡ false → E o (n + k) st′ mem′ ≡ P n st mem
+  pair-ends st st′ mem mem′ o k e g = sym (pair-turn st mem ∙ rw (← e) (on-ended o _ _ g))
 
-  pub second-ends : (getD bytes n 0 ≡ 0 → ⊥) → ended o k st mem′ ≡ turnOf 1 0 y mem → stepped o ≡ false
-      → pairEnded (o ∷ []) (n + k) x st mem′ ≡ pairOf (drop n bytes) (soFar n) n x y mem
-  second-ends z e g = rw (drop-cons bytes n 0 h) (sym (pair-second _ _ (soFar n) n x y mem z ∙ rw (← e) (on-ended o _ _ g)))
+-- a pair run from place i of its schedule on, and its end, as one processor sees them
+abbrev firstFrom : List ℕ → State → ℕ → State → List ℕ → PairEnded
+firstFrom bytes y i x mem = pairOf (drop i bytes) (soFar i) i x y mem
+
+abbrev secondFrom : List ℕ → State → ℕ → State → List ℕ → PairEnded
+secondFrom bytes x i y mem = pairOf (drop i bytes) (soFar i) i x y mem
+
+abbrev firstEnds : State → Answer → ℕ → State → List ℕ → PairEnded
+firstEnds y o i x mem = pairEnded (o ∷ []) i x y mem
+
+abbrev secondEnds : State → Answer → ℕ → State → List ℕ → PairEnded
+secondEnds x o i y mem = pairEnded (o ∷ []) i x y mem
+
+-- m equal bytes of a schedule from the n-th on: the turn that they ask for stepped, or ended the pair run
+module _ (bytes : List ℕ) (n m : ℕ) (h : n + m ≤ length bytes) (same : (j : ℕ) → j < m → getD bytes (n + j) 0 ≡ getD bytes n 0) where
+  first-each : getD bytes n 0 ≡ 0 → (y : State) (j : ℕ) → j < m → Steps (firstFrom bytes y) (firstEnds y) (n + j)
+  unfolding pairOf
+  first-each z y j l x mem = rw (drop-cons bytes (n + j) 0 (omega arith), same j l, z, eqb·suc-zero (n + j))
+
+  second-each : (getD bytes n 0 ≡ 0 → ⊥) → (x : State) (j : ℕ) → j < m → Steps (secondFrom bytes x) (secondEnds x) (n + j)
+  unfolding pairOf
+  second-each z x j l y mem =
+      let e : getD bytes n 0 ≡ suc (getD bytes n 0 - 1) = omega (arith, z) in
+      rw (drop-cons bytes (n + j) 0 (omega arith), same j l, e, eqb·suc-zero (n + j))
+
+  module _ (x y : State) (mem : List ℕ) (o : Answer) (k : ℕ) (st : State) (mem′ : List ℕ) where
+    pub first-on : getD bytes n 0 ≡ 0 → ended o k st mem′ ≡ turnOf m 0 x mem → stepped o ≡ true
+        → pairOf (drop (n + m) bytes) (soFar (n + m)) (n + m) st y mem′ ≡ pairOf (drop n bytes) (soFar n) n x y mem
+    first-on z = pair-on n m (firstFrom bytes y) (firstEnds y) (first-each z y) x st mem mem′ o k
+
+    pub first-ends : getD bytes n 0 ≡ 0 → ended o k st mem′ ≡ turnOf m 0 x mem → stepped o ≡ false
+        → pairEnded (o ∷ []) (n + k) st y mem′ ≡ pairOf (drop n bytes) (soFar n) n x y mem
+    first-ends z = pair-ends n m (firstFrom bytes y) (firstEnds y) (first-each z y) x st mem mem′ o k
+
+    pub second-on : (getD bytes n 0 ≡ 0 → ⊥) → ended o k st mem′ ≡ turnOf m 0 y mem → stepped o ≡ true
+        → pairOf (drop (n + m) bytes) (soFar (n + m)) (n + m) x st mem′ ≡ pairOf (drop n bytes) (soFar n) n x y mem
+    second-on z = pair-on n m (secondFrom bytes x) (secondEnds x) (second-each z x) y st mem mem′ o k
+
+    pub second-ends : (getD bytes n 0 ≡ 0 → ⊥) → ended o k st mem′ ≡ turnOf m 0 y mem → stepped o ≡ false
+        → pairEnded (o ∷ []) (n + k) x st mem′ ≡ pairOf (drop n bytes) (soFar n) n x y mem
+    second-ends z = pair-ends n m (secondFrom bytes x) (secondEnds x) (second-each z x) y st mem mem′ o k
 
 pub pair-done : (bytes : List ℕ) (n : ℕ) (x y : State) (mem : List ℕ) → length bytes ≤ n → pairEnded (soFar n) n x y mem ≡ pairOf (drop n bytes) (soFar n) n x y mem
 unfolding pairOf

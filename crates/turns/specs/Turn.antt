@@ -14,7 +14,7 @@ use Rattle.machine.specs.declared.Answer.{Answer}
 use Rattle.machine.specs.declared.Answer.the-variants.{Stepped, Exchanged, NotHeld, MonitorFetch}
 use Rattle.machine.specs.Word.{pick}
 use Rattle.machine.specs.Work.{workOf}
-use Rattle.machine.specs.Step.{stepOf}
+use Rattle.machine.specs.Step.{Out, finish, stepOf}
 use Rattle.machine.specs.Run.{Ended, ended}
 use Rattle.access.specs.Layout.{registers, frame}
 
@@ -57,6 +57,14 @@ onStepped Stepped n rest end = rest
 onStepped (Exchanged flags) n rest end = end (suc n)
 onStepped (NotHeld p) n rest end = end n
 onStepped (MonitorFetch p) n rest end = end n
+
+-- what a step came to after n that stepped, an exchange being counted
+abbrev pub counted : ℕ → Out → Ended
+counted n o = onStepped (o .answer) n (ended (o .answer) n (o .state) (o .mem)) (λ k. ended (o .answer) k (o .state) (o .mem))
+
+-- the end of a turn whose burst came so far: its next step is finished
+abbrev pub endOf : Frame → Burst → Ended
+endOf fr b = counted (b .steps) (finish (record { p = b .p; registers = b .registers; frame = fr }) (b .work) (b .registers) (b .mem))
 
 -- at most `budget` steps up to and including the first that does not answer "stepped"
 unfoldable pub turnOf : ℕ → ℕ → State → List ℕ → Ended

@@ -10,7 +10,7 @@ ghost use Rattle.machine.specs.declared.Answer.the-variants.{Exchanged};
 ghost use Rattle.machine.specs.Step.{out, inUserMode, exchange, finish};
 ghost use Rattle.machine.specs.Run.{ended};
 ghost use Rattle.access.specs.Layout.{registers, frame, Reaches, Inside, FrameOk, KOk};
-ghost use Rattle.turns.specs.Turn.{state, burst, burstOf, turnOf, Counts};
+ghost use Rattle.turns.specs.Turn.{state, burst, burstOf, endOf, turnOf, Counts};
 ghost use Rattle.laws.proofs.Laws.{Narrow};
 use access::MM;
 use machine::Answer;
@@ -162,6 +162,48 @@ pub struct Went {
     pub last: Answer,
 }
 
+// The end of a turn whose burst came so far: its next step is finished, and an exchange is counted.
+pub fn end_turn(
+    a: &mut [u64; 8],
+    s: &mut [u64; 8],
+    k: &mut [u64; 5],
+    q: &mut [u64; 10],
+    mem: &mut [u64],
+    came: Came,
+) -> Went
+    requires { ⌜ KOk (now k) × FrameOk (frame (now q)) × (4096 ≤ length (now mem)) ⌝ }
+    requires { ⌜ (came .p .0 < 2 ^ 24) × (came .steps < 2 ^ 32) × Narrow (came .work) ⌝ }
+    ensures { λ r. ⌜ ((b t v : List ℕ) → ended (r .last) (r .steps) (state (r .p) (now (a .exit)) (now (s .exit)) b t v (now (k .exit)) (now (q .exit))) (now (mem .exit)) ≡ endOf (frame (now (q .entry))) (burst (came .p) (came .steps) (came .work) (registers (now (a .entry)) (now (s .entry)) b t v (now (k .entry))) (now (mem .entry)))) ⌝ }
+    ensures { λ r. ⌜ KOk (now (k .exit)) × FrameOk (frame (now (q .exit))) × (r .p .0 < 2 ^ 24) ⌝ }
+{
+    let work = came.work;
+    let done = complete(a, s, k, q, mem, came.p, work);
+    let last = done.answer;
+    let p = done.p;
+    match last {
+        Answer::Stepped => Went {
+            p,
+            steps: came.steps,
+            last,
+        },
+        Answer::Exchanged(_) => Went {
+            p,
+            steps: came.steps + 1,
+            last,
+        },
+        Answer::NotHeld(_) => Went {
+            p,
+            steps: came.steps,
+            last,
+        },
+        Answer::MonitorFetch(_) => Went {
+            p,
+            steps: came.steps,
+            last,
+        },
+    }
+}
+
 // Steps until the budget is spent or one does more than step; that one is finished.
 pub fn turn(
     a: &mut [u64; 8],
@@ -183,31 +225,6 @@ pub fn turn(
     ensures { λ r. ⌜ KOk (now (k .exit)) × FrameOk (frame (now (q .exit))) × (r .p .0 < 2 ^ 24) × Counts budget 0 (r .last) (r .steps) ⌝ }
 {
     let f = access::reach(q, mem);
-    let r = take_burst(a, s, b, t, v, k, q, mem, f, p, budget);
-    let w = r.work;
-    let done = complete(a, s, k, q, mem, r.p, w);
-    let last = done.answer;
-    let to = done.p;
-    match last {
-        Answer::Stepped => Went {
-            p: to,
-            steps: r.steps,
-            last,
-        },
-        Answer::Exchanged(_) => Went {
-            p: to,
-            steps: r.steps + 1,
-            last,
-        },
-        Answer::NotHeld(_) => Went {
-            p: to,
-            steps: r.steps,
-            last,
-        },
-        Answer::MonitorFetch(_) => Went {
-            p: to,
-            steps: r.steps,
-            last,
-        },
-    }
+    let came = take_burst(a, s, b, t, v, k, q, mem, f, p, budget);
+    end_turn(a, s, k, q, mem, came)
 }

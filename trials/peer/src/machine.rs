@@ -2,6 +2,7 @@
 
 use crate::ops::TABLE;
 use crate::state::{State, MASK22, MASK24};
+use std::ops::Range;
 
 /// What one step did. Flags count from 1 for a normal exit: error exit 2,
 /// program range 4, operand range 8.
@@ -99,6 +100,16 @@ impl Window {
     pub(crate) fn word(self, address: u32) -> Option<usize> {
         let word = (address & MASK22) as usize;
         (word < self.span).then(|| self.base + word)
+    }
+
+    /// The places of `count` words from an address on, if that and all of them
+    /// are inside.
+    #[inline(always)]
+    pub(crate) fn words(self, address: u32, count: u32) -> Option<Range<usize>> {
+        let first = (address & MASK22) as usize;
+        let end = first + count as usize;
+        let inside = first < self.span && end <= self.span;
+        inside.then(|| self.base + first..self.base + end)
     }
 }
 

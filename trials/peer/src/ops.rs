@@ -6,6 +6,7 @@
 
 use crate::machine::{Flow, Machine};
 use crate::state::{vector_length, State, MASK22, MASK24};
+use std::ops::Range;
 
 pub(crate) type Op = fn(&mut Machine, &mut [u64], u16) -> Flow;
 
@@ -384,6 +385,17 @@ fn store_words(
     flow
 }
 
+/// The words of a transfer as one piece of memory, where they stand in a row,
+/// all inside, and go to `room` registers without beginning again. That is
+/// what most do, and then the words are moved at once.
+#[inline(always)]
+fn piece(c: &Machine, (count, stride): (u32, u32), room: usize) -> Option<Range<usize>> {
+    if stride != 1 || count as usize > room {
+        return None;
+    }
+    c.data.words(c.r.a[0], count)
+}
+
 /// The shape of a block move: the low seven bits of Ai, words in a row.
 #[inline(always)]
 fn block(c: &Machine, w: u16) -> (u32, u32) {
@@ -391,27 +403,48 @@ fn block(c: &Machine, w: u16) -> (u32, u32) {
 }
 
 fn b_read(c: &mut Machine, memory: &mut [u64], w: u16) -> Flow {
-    let shape = block(c, w);
+    let (shape, first) = (block(c, w), jk(w));
+    if let Some(words) = piece(c, shape, 64 - first) {
+        for (b, word) in c.r.b[first..].iter_mut().zip(&memory[words]) {
+            *b = *word as u32 & MASK24;
+        }
+        return Flow::Next;
+    }
     read_words(c, memory, shape, |r, n, value| {
-        r.b[(jk(w) + n) & 63] = value as u32 & MASK24;
+        r.b[(first + n) & 63] = value as u32 & MASK24;
     })
 }
 
 fn b_store(c: &mut Machine, memory: &mut [u64], w: u16) -> Flow {
-    let shape = block(c, w);
-    store_words(c, memory, shape, |r, n| u64::from(r.b[(jk(w) + n) & 63]))
+    let (shape, first) = (block(c, w), jk(w));
+    if let Some(words) = piece(c, shape, 64 - first) {
+        for (word, b) in memory[words].iter_mut().zip(&c.r.b[first..]) {
+            *word = u64::from(*b);
+        }
+        return Flow::Next;
+    }
+    store_words(c, memory, shape, |r, n| u64::from(r.b[(first + n) & 63]))
 }
 
 fn t_read(c: &mut Machine, memory: &mut [u64], w: u16) -> Flow {
-    let shape = block(c, w);
+    let (shape, first) = (block(c, w), jk(w));
+    if let Some(words) = piece(c, shape, 64 - first) {
+        c.r.t[first..first + words.len()].copy_from_slice(&memory[words]);
+        return Flow::Next;
+    }
     read_words(c, memory, shape, |r, n, value| {
-        r.t[(jk(w) + n) & 63] = value;
+        r.t[(first + n) & 63] = value;
     })
 }
 
 fn t_store(c: &mut Machine, memory: &mut [u64], w: u16) -> Flow {
-    let shape = block(c, w);
-    store_words(c, memory, shape, |r, n| r.t[(jk(w) + n) & 63])
+    let (shape, first) = (block(c, w), jk(w));
+    if let Some(words) = piece(c, shape, 64 - first) {
+        let count = words.len();
+        memory[words].copy_from_slice(&c.r.t[first..first + count]);
+        return Flow::Next;
+    }
+    store_words(c, memory, shape, |r, n| r.t[(first + n) & 63])
 }
 
 // 040 to 061: scalar registers.
@@ -807,6 +840,10 @@ fn v_read(c: &mut Machine, memory: &mut [u64], w: u16) -> Flow {
         return Flow::NotHeld;
     }
     let shape = (c.r.vl, c.r.ak(w));
+    if let Some(words) = piece(c, shape, 64) {
+        c.r.v[i(w)][..words.len()].copy_from_slice(&memory[words]);
+        return Flow::Next;
+    }
     read_words(c, memory, shape, |r, n, value| {
         r.v[i(w)][n & 63] = value;
     })
@@ -817,5 +854,10 @@ fn v_store(c: &mut Machine, memory: &mut [u64], w: u16) -> Flow {
         return Flow::NotHeld;
     }
     let shape = (c.r.vl, c.r.ak(w));
+    if let Some(words) = piece(c, shape, 64) {
+        let count = words.len();
+        memory[words].copy_from_slice(&c.r.v[j(w)][..count]);
+        return Flow::Next;
+    }
     store_words(c, memory, shape, |r, n| r.v[j(w)][n & 63])
 }

@@ -1,5 +1,6 @@
+use mathlib.Core.Path.{_≡_}
 use borrow.Author.Tests.{lt-ltb, le-ltb, eq-eqb, ne-eqb, not-true, not-false}
-use Rattle.machine.specs.Refusal.{pairRefusal, first}
+use Rattle.machine.specs.Refusal.{stateFits, pairRefusal, first}
 use borrow.Author.Needs.{needs}
 use Rattle.refusal.proofs.of_pair.Statement.{statement}
 use Rattle.refusal.proofs.of_pair.Tie as tie
@@ -30,23 +31,23 @@ returns-5 : tie.Need-returns-5
 unfolding pairRefusal first
 returns-5 c = rw (← c .before .before .before .before .before .before .before .before .memory-fits .ensures, c .before .before .before .before .before .before .before .if1 .left, eq-eqb _ _ (c .before .before .before .before .before .if2 .left), eq-eqb _ _ (c .before .before .before .if3 .left), le-ltb _ _ (c .before .before .if4 .left), ← c .before .bytes-below .ensures, c .if5 .taken)
 
-state-fits-requires : tie.Need-state-fits-requires
-state-fits-requires c κs = search needs
+numbers-fit-requires : tie.Need-numbers-fit-requires
+numbers-fit-requires c κs = search needs
 
 returns-6 : tie.Need-returns-6
 unfolding pairRefusal first
-returns-6 c = rw (← c .before .before .before .before .before .before .before .before .before .before .memory-fits .ensures, c .before .before .before .before .before .before .before .before .before .if1 .left, eq-eqb _ _ (c .before .before .before .before .before .before .before .if2 .left), eq-eqb _ _ (c .before .before .before .before .before .if3 .left), le-ltb _ _ (c .before .before .before .before .if4 .left), ← c .before .before .before .bytes-below .ensures, c .before .before .if5 .left, ← c .before .state-fits .ensures, not-true (c .before .state-fits .result) (c .if6 .taken))
+returns-6 c = let r = c .before .before .before .before .before .before .before .before .before .before .before .before .before .before .before .before .before .before .args .first .registers in let f : c .before .numbers-fit .result ≡ stateFits (c .before .before .before .before .before .before .before .before .before .before .before .before .before .before .before .before .before .before .args .first) = c .before .numbers-fit .ensures (r .s) (r .t) (r .v) (r .vm) in rw (← c .before .before .before .before .before .before .before .before .before .before .before .before .before .before .memory-fits .ensures, c .before .before .before .before .before .before .before .before .before .before .before .before .before .if1 .left, eq-eqb _ _ (c .before .before .before .before .before .before .before .before .before .before .before .if2 .left), eq-eqb _ _ (c .before .before .before .before .before .before .before .before .before .if3 .left), le-ltb _ _ (c .before .before .before .before .before .before .before .before .if4 .left), ← c .before .before .before .before .before .before .before .bytes-below .ensures, c .before .before .before .before .before .before .if5 .left, ← f, not-true (c .before .numbers-fit .result) (c .if6 .taken))
 
-state-fits-requires-2 : tie.Need-state-fits-requires-2
-state-fits-requires-2 c κs = search needs
+numbers-fit-requires-2 : tie.Need-numbers-fit-requires-2
+numbers-fit-requires-2 c κs = search needs
 
 returns-7 : tie.Need-returns-7
 unfolding pairRefusal first
-returns-7 c = rw (← c .before .before .before .before .before .before .before .before .before .before .before .before .memory-fits .ensures, c .before .before .before .before .before .before .before .before .before .before .before .if1 .left, eq-eqb _ _ (c .before .before .before .before .before .before .before .before .before .if2 .left), eq-eqb _ _ (c .before .before .before .before .before .before .before .if3 .left), le-ltb _ _ (c .before .before .before .before .before .before .if4 .left), ← c .before .before .before .before .before .bytes-below .ensures, c .before .before .before .before .if5 .left, ← c .before .before .before .state-fits .ensures, not-false (c .before .before .before .state-fits .result) (c .before .before .if6 .left), ← c .before .state-fits2 .ensures, c .if7 .taken)
+returns-7 c = let r = c .before .before .before .before .before .before .before .before .before .before .before .before .before .before .before .before .before .before .before .before .before .before .before .before .args .first .registers in let f : c .before .before .before .before .before .before .before .numbers-fit .result ≡ stateFits (c .before .before .before .before .before .before .before .before .before .before .before .before .before .before .before .before .before .before .before .before .before .before .before .before .args .first) = c .before .before .before .before .before .before .before .numbers-fit .ensures (r .s) (r .t) (r .v) (r .vm) in let r1 = c .before .before .before .before .before .before .before .before .before .before .before .before .before .before .before .before .before .before .before .before .before .before .before .before .args .second .registers in let g : c .before .numbers-fit2 .result ≡ stateFits (c .before .before .before .before .before .before .before .before .before .before .before .before .before .before .before .before .before .before .before .before .before .before .before .before .args .second) = c .before .numbers-fit2 .ensures (r1 .s) (r1 .t) (r1 .v) (r1 .vm) in rw (← c .before .before .before .before .before .before .before .before .before .before .before .before .before .before .before .before .before .before .before .before .memory-fits .ensures, c .before .before .before .before .before .before .before .before .before .before .before .before .before .before .before .before .before .before .before .if1 .left, eq-eqb _ _ (c .before .before .before .before .before .before .before .before .before .before .before .before .before .before .before .before .before .if2 .left), eq-eqb _ _ (c .before .before .before .before .before .before .before .before .before .before .before .before .before .before .before .if3 .left), le-ltb _ _ (c .before .before .before .before .before .before .before .before .before .before .before .before .before .before .if4 .left), ← c .before .before .before .before .before .before .before .before .before .before .before .before .before .bytes-below .ensures, c .before .before .before .before .before .before .before .before .before .before .before .before .if5 .left, ← f, not-false (c .before .before .before .before .before .before .before .numbers-fit .result) (c .before .before .before .before .before .before .if6 .left), ← g, c .if7 .taken)
 
 returns-8 : tie.Need-returns-8
 unfolding pairRefusal first
-returns-8 c = rw (← c .before .before .before .before .before .before .before .before .before .before .before .before .memory-fits .ensures, c .before .before .before .before .before .before .before .before .before .before .before .if1 .left, eq-eqb _ _ (c .before .before .before .before .before .before .before .before .before .if2 .left), eq-eqb _ _ (c .before .before .before .before .before .before .before .if3 .left), le-ltb _ _ (c .before .before .before .before .before .before .if4 .left), ← c .before .before .before .before .before .bytes-below .ensures, c .before .before .before .before .if5 .left, ← c .before .before .before .state-fits .ensures, not-false (c .before .before .before .state-fits .result) (c .before .before .if6 .left), ← c .before .state-fits2 .ensures, c .if7 .left)
+returns-8 c = let r = c .before .before .before .before .before .before .before .before .before .before .before .before .before .before .before .before .before .before .before .before .before .before .before .before .args .first .registers in let f : c .before .before .before .before .before .before .before .numbers-fit .result ≡ stateFits (c .before .before .before .before .before .before .before .before .before .before .before .before .before .before .before .before .before .before .before .before .before .before .before .before .args .first) = c .before .before .before .before .before .before .before .numbers-fit .ensures (r .s) (r .t) (r .v) (r .vm) in let r1 = c .before .before .before .before .before .before .before .before .before .before .before .before .before .before .before .before .before .before .before .before .before .before .before .before .args .second .registers in let g : c .before .numbers-fit2 .result ≡ stateFits (c .before .before .before .before .before .before .before .before .before .before .before .before .before .before .before .before .before .before .before .before .before .before .before .before .args .second) = c .before .numbers-fit2 .ensures (r1 .s) (r1 .t) (r1 .v) (r1 .vm) in rw (← c .before .before .before .before .before .before .before .before .before .before .before .before .before .before .before .before .before .before .before .before .memory-fits .ensures, c .before .before .before .before .before .before .before .before .before .before .before .before .before .before .before .before .before .before .before .if1 .left, eq-eqb _ _ (c .before .before .before .before .before .before .before .before .before .before .before .before .before .before .before .before .before .if2 .left), eq-eqb _ _ (c .before .before .before .before .before .before .before .before .before .before .before .before .before .before .before .if3 .left), le-ltb _ _ (c .before .before .before .before .before .before .before .before .before .before .before .before .before .before .if4 .left), ← c .before .before .before .before .before .before .before .before .before .before .before .before .before .bytes-below .ensures, c .before .before .before .before .before .before .before .before .before .before .before .before .if5 .left, ← f, not-false (c .before .before .before .before .before .before .before .numbers-fit .result) (c .before .before .before .before .before .before .if6 .left), ← g, c .if7 .left)
 
 pub of-pair-spec : {M : Type 1} → statement M
 of-pair-spec =
@@ -59,8 +60,8 @@ of-pair-spec =
     returns-4
     bytes-below-requires
     returns-5
-    state-fits-requires
+    numbers-fit-requires
     returns-6
-    state-fits-requires-2
+    numbers-fit-requires-2
     returns-7
     returns-8)

@@ -1,5 +1,6 @@
+use mathlib.Core.Path.{_≡_}
 use borrow.Author.Tests.{lt-ltb, le-ltb}
-use Rattle.machine.specs.Refusal.{runRefusal, first}
+use Rattle.machine.specs.Refusal.{stateFits, runRefusal, first}
 use borrow.Author.Needs.{needs}
 use Rattle.refusal.proofs.of_run.Statement.{statement}
 use Rattle.refusal.proofs.of_run.Tie as tie
@@ -19,16 +20,16 @@ returns-3 : tie.Need-returns-3
 unfolding runRefusal first
 returns-3 c = rw (← c .before .before .before .before .memory-fits .ensures, c .before .before .before .if1 .left, le-ltb _ _ (c .before .before .if2 .left), lt-ltb _ _ (c .if3 .taken))
 
-state-fits-requires : tie.Need-state-fits-requires
-state-fits-requires c κs = search needs
+numbers-fit-requires : tie.Need-numbers-fit-requires
+numbers-fit-requires c κs = search needs
 
 returns-4 : tie.Need-returns-4
 unfolding runRefusal first
-returns-4 c = rw (← c .before .before .before .before .before .before .memory-fits .ensures, c .before .before .before .before .before .if1 .left, le-ltb _ _ (c .before .before .before .before .if2 .left), le-ltb _ _ (c .before .before .if3 .left), ← c .before .state-fits .ensures, c .if4 .taken)
+returns-4 c = let r = c .before .before .before .before .before .before .before .before .before .before .before .before .args .st .registers in let f : c .before .numbers-fit .result ≡ stateFits (c .before .before .before .before .before .before .before .before .before .before .before .before .args .st) = c .before .numbers-fit .ensures (r .s) (r .t) (r .v) (r .vm) in rw (← c .before .before .before .before .before .before .before .before .before .before .memory-fits .ensures, c .before .before .before .before .before .before .before .before .before .if1 .left, le-ltb _ _ (c .before .before .before .before .before .before .before .before .if2 .left), le-ltb _ _ (c .before .before .before .before .before .before .if3 .left), ← f, c .if4 .taken)
 
 returns-5 : tie.Need-returns-5
 unfolding runRefusal first
-returns-5 c = rw (← c .before .before .before .before .before .before .memory-fits .ensures, c .before .before .before .before .before .if1 .left, le-ltb _ _ (c .before .before .before .before .if2 .left), le-ltb _ _ (c .before .before .if3 .left), ← c .before .state-fits .ensures, c .if4 .left)
+returns-5 c = let r = c .before .before .before .before .before .before .before .before .before .before .before .before .args .st .registers in let f : c .before .numbers-fit .result ≡ stateFits (c .before .before .before .before .before .before .before .before .before .before .before .before .args .st) = c .before .numbers-fit .ensures (r .s) (r .t) (r .v) (r .vm) in rw (← c .before .before .before .before .before .before .before .before .before .before .memory-fits .ensures, c .before .before .before .before .before .before .before .before .before .if1 .left, le-ltb _ _ (c .before .before .before .before .before .before .before .before .if2 .left), le-ltb _ _ (c .before .before .before .before .before .before .if3 .left), ← f, c .if4 .left)
 
 pub of-run-spec : {M : Type 1} → statement M
 of-run-spec =
@@ -38,6 +39,6 @@ of-run-spec =
     returns
     returns-2
     returns-3
-    state-fits-requires
+    numbers-fit-requires
     returns-4
     returns-5)

@@ -1,0 +1,57 @@
+-- What a call leaves to its caller: the number of its refusal, 0 for none, and the lists that it was lent. Refused, it alters none. Assumes nothing.
+use Prim.Native.Nat.{ℕ}
+use mathlib.Core.List.{List, [], _∷_}
+use lib.ListN.{getD}
+use lib.Dec.{eqb}
+use Rattle.machine.specs.Word.{pick}
+use Rattle.machine.specs.Call.{StartCalled, Called, RunCalled, PairCalled, saidNumbers, endingNumbers, lastNumbers}
+use Rattle.export.specs.Words.{wordsOf}
+
+pub record Left : Type 0 where
+  pub number : ℕ
+  pub lent : List (List ℕ)
+
+abbrev pub left : ℕ → List (List ℕ) → Left
+left n lists = record { number = n; lent = lists }
+
+-- what it made or, refused, what it found
+abbrev pub leaves : ℕ → List (List ℕ) → List (List ℕ) → Left
+leaves n found made = left n (pick (eqb n 0) made found)
+
+-- of document 01's numbers for an answer: that of a refusal, 0 for none; the kind, 4 for no answer; its value, 0 where it has none
+abbrev pub refused : List ℕ → ℕ
+refused numbers = getD numbers 0 0
+
+abbrev pub kind : List ℕ → ℕ
+kind numbers = getD numbers 1 4
+
+abbrev pub value : List ℕ → ℕ
+value numbers = getD numbers 2 0
+
+-- the three side by side
+abbrev pub threeOf : List ℕ → List ℕ
+threeOf numbers = refused numbers ∷ kind numbers ∷ value numbers ∷ []
+
+-- a start fills the words
+abbrev pub afterStart : List ℕ → StartCalled → Left
+afterStart words c = leaves (c .refused) (words ∷ []) (wordsOf (c .state) ∷ [])
+
+-- a step: the kind and the value of its answer
+abbrev pub afterStep : List ℕ → List ℕ → Called → Left
+afterStep words answer c =
+    let n = saidNumbers (c .said) in
+    leaves (refused n) (words ∷ c .mem ∷ answer ∷ []) (wordsOf (c .state) ∷ c .mem ∷ (kind n ∷ value n ∷ []) ∷ [])
+
+-- a run: the kind and the value of its ending, and the steps
+abbrev pub afterRun : List ℕ → List ℕ → RunCalled → Left
+afterRun words report c =
+    let n = endingNumbers (c .ending) in
+    leaves (refused n) (words ∷ c .mem ∷ report ∷ []) (wordsOf (c .state) ∷ c .mem ∷ (kind n ∷ value n ∷ c .steps ∷ []) ∷ [])
+
+-- a pair run: the same of its last answer
+abbrev pub afterPair : List ℕ → List ℕ → List ℕ → PairCalled → Left
+afterPair first second report c =
+    let n = lastNumbers (c .last) in
+    leaves (refused n)
+    (first ∷ second ∷ c .mem ∷ report ∷ [])
+    (wordsOf (c .first) ∷ wordsOf (c .second) ∷ c .mem ∷ (kind n ∷ value n ∷ c .steps ∷ []) ∷ [])

@@ -1,0 +1,120 @@
+/* The integer half of a CRAY X-MP: a start, a step, a run and a pair run.
+ *
+ * Link with libexport.a. It calls memcpy and memset, allocates nothing, keeps
+ * nothing between calls and may be called from several threads at once, each
+ * with its own processors and memory.
+ *
+ * The caller lends every array. No pointer may be null, not even with a length
+ * of 0, and no two arrays of one call may overlap. Whatever numbers they hold,
+ * each call has one result; pulxarrid(3) says which.
+ */
+#ifndef PULXARRID_H
+#define PULXARRID_H
+
+#include <stddef.h>
+#include <stdint.h>
+
+#ifdef __cplusplus
+extern "C" {
+#endif
+
+/* The words of a processor, and the place of each register among them. An
+ * array of registers begins at its place; element e of V register i is at
+ * PULXARRID_V + 64 * i + e. */
+#define PULXARRID_STATE_WORDS 672
+
+enum pulxarrid_place {
+    PULXARRID_P = 0,          /* parcel address of the next instruction, 24 bits */
+    PULXARRID_XA = 1,         /* package of the next exchange, 8 bits */
+    PULXARRID_VL = 2,         /* vector length, 1 to 64 */
+    PULXARRID_VM = 3,         /* vector mask, element 0 the highest bit */
+    PULXARRID_IBA = 4,        /* instruction base, 17 bits, times 32 */
+    PULXARRID_ILA = 5,        /* instruction limit, 17 bits, times 32 */
+    PULXARRID_DBA = 6,        /* data base, 17 bits, times 32 */
+    PULXARRID_DLA = 7,        /* data limit, 17 bits, times 32 */
+    PULXARRID_MM = 8,         /* modes, each 0 or 1: monitor */
+    PULXARRID_IOR = 9,        /*   interrupt on operand range */
+    PULXARRID_IFP = 10,       /*   interrupt on floating point */
+    PULXARRID_FPS = 11,       /*   floating point status */
+    PULXARRID_BDM = 12,       /*   bidirectional memory */
+    PULXARRID_PS = 13,        /* program state, 0 or 1 */
+    PULXARRID_CLN = 14,       /* cluster number, 0 to 3 */
+    PULXARRID_PROCESSOR = 15, /* processor number, 0 or 1 */
+    PULXARRID_A = 16,         /* A0 to A7, 24 bits each */
+    PULXARRID_S = 24,         /* S0 to S7 */
+    PULXARRID_B = 32,         /* B00 to B77, 24 bits each */
+    PULXARRID_T = 96,         /* T00 to T77 */
+    PULXARRID_V = 160         /* V0 to V7, 64 elements each */
+};
+
+/* Limits of what a call accepts. */
+#define PULXARRID_MEMORY_LEAST 4096
+#define PULXARRID_MEMORY_MOST 4194304
+#define PULXARRID_PACKAGE_MOST 255
+#define PULXARRID_BUDGET_MOST 1000000
+#define PULXARRID_SCHEDULE_MOST 65536
+
+/* What each function returns: 0, or the number of its refusal. A refused call
+ * alters nothing. The checks are made in this order, where they apply. */
+enum pulxarrid_refusal {
+    PULXARRID_DONE = 0,
+    PULXARRID_BAD_MEMORY = 1,          /* fewer than 4,096 or more than 4,194,304 words */
+    PULXARRID_BAD_PACKAGE = 2,         /* package over 255 */
+    PULXARRID_BAD_BUDGET = 3,          /* budget over 1,000,000 */
+    PULXARRID_BAD_PROCESSOR = 4,       /* number not 0 or 1; in a pair run, first not 0 or second not 1 */
+    PULXARRID_BAD_SCHEDULE_LENGTH = 5, /* schedule over 65,536 bytes */
+    PULXARRID_BAD_SCHEDULE_BYTE = 6,   /* a byte over 1 */
+    PULXARRID_BAD_STATE = 7            /* a number too wide for its register, or VL not 1 to 64 */
+};
+
+/* The kind of an answer or an ending, and its value. */
+enum pulxarrid_kind {
+    PULXARRID_STEPPED = 0,       /* of a step; value 0 */
+    PULXARRID_BUDGET_SPENT = 0,  /* of a run; value 0 */
+    PULXARRID_EXCHANGED = 1,     /* value: the flags */
+    PULXARRID_NOT_HELD = 2,      /* value: P. The machine does not hold the code there */
+    PULXARRID_MONITOR_FETCH = 3, /* value: P. A parcel outside, in monitor mode */
+    PULXARRID_NOTHING = 4        /* of a pair run that took no step; value 0 */
+};
+
+/* The flags of an exchange. */
+enum pulxarrid_flag {
+    PULXARRID_NORMAL_EXIT = 1,
+    PULXARRID_ERROR_EXIT = 2,
+    PULXARRID_PROGRAM_RANGE = 4,
+    PULXARRID_OPERAND_RANGE = 8
+};
+
+/* Fills state with a processor loaded from a package: words 16 * package to
+ * 16 * package + 15 of memory. B, T, V and VM are 0. */
+uint64_t pulxarrid_start(uint64_t state[PULXARRID_STATE_WORDS],
+                         const uint64_t *memory, size_t words,
+                         uint64_t package, uint64_t processor);
+
+/* Takes one step. answer: its kind and its value. */
+uint64_t pulxarrid_step(uint64_t state[PULXARRID_STATE_WORDS],
+                        uint64_t *memory, size_t words,
+                        uint64_t answer[2]);
+
+/* Takes steps until budget is spent or one answers not held or monitor fetch.
+ * report: the kind of the ending, its value, and the number of steps that
+ * stepped or exchanged. */
+uint64_t pulxarrid_run(uint64_t state[PULXARRID_STATE_WORDS],
+                       uint64_t *memory, size_t words,
+                       uint64_t budget, uint64_t report[3]);
+
+/* Takes a step for each byte of schedule, 0 for the first processor and 1 for
+ * the second, up to and including the first that does not answer stepped.
+ * report: the kind of the last answer, its value, and the number of steps that
+ * stepped or exchanged. */
+uint64_t pulxarrid_pair_run(uint64_t first[PULXARRID_STATE_WORDS],
+                            uint64_t second[PULXARRID_STATE_WORDS],
+                            uint64_t *memory, size_t words,
+                            const uint8_t *schedule, size_t turns,
+                            uint64_t report[3]);
+
+#ifdef __cplusplus
+}
+#endif
+
+#endif

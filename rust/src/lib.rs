@@ -1,0 +1,282 @@
+//! The integer half of a CRAY X-MP: a start, a step, a run and a pair run.
+//!
+//! Safe functions over the proved library. What each call gives is stated and
+//! proved there; this file only gives the numbers names. The declarations of
+//! `extern "C"` are checked by nobody: a slice is a pointer and a length, an
+//! array one pointer.
+
+/// The words of a processor.
+pub const STATE_WORDS: usize = 672;
+
+extern "C" {
+    fn pulxarrid_start(
+        state: &mut [u64; STATE_WORDS],
+        memory: *const u64,
+        words: usize,
+        package: u64,
+        processor: u64,
+    ) -> u64;
+    fn pulxarrid_step(
+        state: &mut [u64; STATE_WORDS],
+        memory: *mut u64,
+        words: usize,
+        answer: &mut [u64; 2],
+    ) -> u64;
+    fn pulxarrid_run(
+        state: &mut [u64; STATE_WORDS],
+        memory: *mut u64,
+        words: usize,
+        budget: u64,
+        report: &mut [u64; 3],
+    ) -> u64;
+    fn pulxarrid_pair_run(
+        first: &mut [u64; STATE_WORDS],
+        second: &mut [u64; STATE_WORDS],
+        memory: *mut u64,
+        words: usize,
+        schedule: *const u8,
+        turns: usize,
+        report: &mut [u64; 3],
+    ) -> u64;
+}
+
+/// A register of a processor. Numbers count from 0; those past the last
+/// register of a kind are errors.
+#[derive(Clone, Copy, PartialEq, Eq, Debug)]
+pub enum Register {
+    P,
+    Xa,
+    Vl,
+    Vm,
+    Iba,
+    Ila,
+    Dba,
+    Dla,
+    Mm,
+    Ior,
+    Ifp,
+    Fps,
+    Bdm,
+    Ps,
+    Cln,
+    Processor,
+    A(usize),
+    S(usize),
+    B(usize),
+    T(usize),
+    /// An element of a vector register: the register, then the element.
+    V(usize, usize),
+}
+
+impl Register {
+    /// The place of its word.
+    pub fn place(self) -> usize {
+        use Register::*;
+        let below = |n: usize, count: usize| {
+            assert!(n < count, "there is no such register");
+            n
+        };
+        match self {
+            P => 0,
+            Xa => 1,
+            Vl => 2,
+            Vm => 3,
+            Iba => 4,
+            Ila => 5,
+            Dba => 6,
+            Dla => 7,
+            Mm => 8,
+            Ior => 9,
+            Ifp => 10,
+            Fps => 11,
+            Bdm => 12,
+            Ps => 13,
+            Cln => 14,
+            Processor => 15,
+            A(n) => 16 + below(n, 8),
+            S(n) => 24 + below(n, 8),
+            B(n) => 32 + below(n, 64),
+            T(n) => 96 + below(n, 64),
+            V(n, element) => 160 + 64 * below(n, 8) + below(element, 64),
+        }
+    }
+}
+
+/// A processor. It may hold any numbers; a call refuses one that is too wide
+/// for its register.
+#[derive(Clone, PartialEq, Eq, Debug)]
+pub struct State {
+    words: [u64; STATE_WORDS],
+}
+
+impl State {
+    pub fn from_words(words: [u64; STATE_WORDS]) -> State {
+        State { words }
+    }
+
+    pub fn words(&self) -> &[u64; STATE_WORDS] {
+        &self.words
+    }
+
+    pub fn get(&self, register: Register) -> u64 {
+        self.words[register.place()]
+    }
+
+    pub fn set(&mut self, register: Register, number: u64) {
+        self.words[register.place()] = number;
+    }
+}
+
+/// Why a call was refused. It altered nothing.
+#[derive(Clone, Copy, PartialEq, Eq, Debug)]
+pub enum Refused {
+    Memory = 1,
+    Package = 2,
+    Budget = 3,
+    Processor = 4,
+    ScheduleLength = 5,
+    ScheduleByte = 6,
+    State = 7,
+}
+
+impl Refused {
+    /// Done, or why not.
+    fn check(number: u64) -> Result<(), Refused> {
+        match number {
+            0 => Ok(()),
+            1 => Err(Refused::Memory),
+            2 => Err(Refused::Package),
+            3 => Err(Refused::Budget),
+            4 => Err(Refused::Processor),
+            5 => Err(Refused::ScheduleLength),
+            6 => Err(Refused::ScheduleByte),
+            7 => Err(Refused::State),
+            _ => unreachable!("the library has seven refusals"),
+        }
+    }
+}
+
+/// What a step did. Flags: normal exit 1, error exit 2, program range 4,
+/// operand range 8. The two stops have the P at which they are.
+#[derive(Clone, Copy, PartialEq, Eq, Debug)]
+pub enum Answer {
+    Stepped,
+    Exchanged(u16),
+    NotHeld(u32),
+    MonitorFetch(u32),
+}
+
+impl Answer {
+    fn new(kind: u64, value: u64) -> Option<Answer> {
+        match kind {
+            0 => Some(Answer::Stepped),
+            1 => Some(Answer::Exchanged(value as u16)),
+            2 => Some(Answer::NotHeld(value as u32)),
+            3 => Some(Answer::MonitorFetch(value as u32)),
+            _ => None,
+        }
+    }
+}
+
+/// How a run ended.
+#[derive(Clone, Copy, PartialEq, Eq, Debug)]
+pub enum Ending {
+    Budget,
+    NotHeld(u32),
+    MonitorFetch(u32),
+}
+
+/// How a run ended, and the steps that stepped or exchanged.
+#[derive(Clone, Copy, PartialEq, Eq, Debug)]
+pub struct Ran {
+    pub ending: Ending,
+    pub steps: u64,
+}
+
+/// The last answer of a pair run, if it took a step, and the steps that
+/// stepped or exchanged.
+#[derive(Clone, Copy, PartialEq, Eq, Debug)]
+pub struct PairRan {
+    pub last: Option<Answer>,
+    pub steps: u64,
+}
+
+/// A processor loaded from a package.
+pub fn start(memory: &[u64], package: u64, processor: u64) -> Result<State, Refused> {
+    let mut words = [0; STATE_WORDS];
+    let number = unsafe {
+        pulxarrid_start(
+            &mut words,
+            memory.as_ptr(),
+            memory.len(),
+            package,
+            processor,
+        )
+    };
+    Refused::check(number)?;
+    Ok(State { words })
+}
+
+/// One step.
+pub fn step(state: &mut State, memory: &mut [u64]) -> Result<Answer, Refused> {
+    let mut answer = [0; 2];
+    let number = unsafe {
+        pulxarrid_step(
+            &mut state.words,
+            memory.as_mut_ptr(),
+            memory.len(),
+            &mut answer,
+        )
+    };
+    Refused::check(number)?;
+    Ok(Answer::new(answer[0], answer[1]).expect("a step answers"))
+}
+
+/// Steps until the budget is spent or one stops.
+pub fn run(state: &mut State, memory: &mut [u64], budget: u64) -> Result<Ran, Refused> {
+    let mut report = [0; 3];
+    let number = unsafe {
+        pulxarrid_run(
+            &mut state.words,
+            memory.as_mut_ptr(),
+            memory.len(),
+            budget,
+            &mut report,
+        )
+    };
+    Refused::check(number)?;
+    let [kind, value, steps] = report;
+    let ending = match kind {
+        0 => Ending::Budget,
+        2 => Ending::NotHeld(value as u32),
+        3 => Ending::MonitorFetch(value as u32),
+        _ => unreachable!("a run ends in one of three ways"),
+    };
+    Ok(Ran { ending, steps })
+}
+
+/// A step for each byte of the schedule, 0 for the first processor and 1 for
+/// the second, up to the first that does more than step.
+pub fn pair_run(
+    first: &mut State,
+    second: &mut State,
+    memory: &mut [u64],
+    schedule: &[u8],
+) -> Result<PairRan, Refused> {
+    let mut report = [0; 3];
+    let number = unsafe {
+        pulxarrid_pair_run(
+            &mut first.words,
+            &mut second.words,
+            memory.as_mut_ptr(),
+            memory.len(),
+            schedule.as_ptr(),
+            schedule.len(),
+            &mut report,
+        )
+    };
+    Refused::check(number)?;
+    let [kind, value, steps] = report;
+    let last = Answer::new(kind, value);
+    Ok(PairRan { last, steps })
+}

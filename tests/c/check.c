@@ -1,0 +1,302 @@
+/* Calls the library from C: places, answers, refusals, memories of every size. */
+#include "pulxarrid.h"
+
+#include <stdio.h>
+#include <stdlib.h>
+#include <string.h>
+
+static int passed, failed;
+
+static void check(int good, const char *what)
+{
+    if (good) {
+        passed++;
+    } else {
+        failed++;
+        printf("failed: %s\n", what);
+    }
+}
+
+/* A call's number, and the numbers that it wrote. */
+static int is(uint64_t number, const uint64_t *got, uint64_t kind, uint64_t value)
+{
+    return number == 0 && got[0] == kind && got[1] == value;
+}
+
+static uint64_t memory[PULXARRID_MEMORY_LEAST];
+static uint64_t state[PULXARRID_STATE_WORDS];
+static uint64_t other[PULXARRID_STATE_WORDS];
+static uint64_t answer[2];
+static uint64_t report[3];
+
+/* A package with fields for code and data, in words, and modes. */
+static void put_package(uint64_t *m, unsigned number, uint64_t code, uint64_t code_end,
+                        uint64_t data, uint64_t data_end, uint64_t modes, uint64_t xa)
+{
+    uint64_t *at = m + 16 * number;
+    memset(at, 0, 16 * sizeof *at);
+    at[1] = code / 32 << 29;
+    at[2] = code_end / 32 << 29 | modes << 24;
+    at[3] = xa << 40;
+    at[4] = data / 32 << 29;
+    at[5] = data_end / 32 << 29;
+}
+
+/* The first example: two numbers are added and the sum is stored at 0x800. */
+static void put_sum(void)
+{
+    memset(memory, 0, sizeof memory);
+    put_package(memory, 0, 0x400, 0x800, 0x800, 0xC00, 0, 0);
+    memory[0x400] = UINT64_C(0x2445248730CA90C0);
+}
+
+static void places(void)
+{
+    check(PULXARRID_STATE_WORDS == 672, "672 words");
+    check(PULXARRID_A - PULXARRID_PROCESSOR == 1, "A follows the processor number");
+    check(PULXARRID_S - PULXARRID_A == 8, "eight A");
+    check(PULXARRID_B - PULXARRID_S == 8, "eight S");
+    check(PULXARRID_T - PULXARRID_B == 64, "64 B");
+    check(PULXARRID_V - PULXARRID_T == 64, "64 T");
+    check(PULXARRID_STATE_WORDS - PULXARRID_V == 8 * 64, "eight V of 64");
+}
+
+/* Each register of a package goes to its place. */
+static void start(void)
+{
+    uint64_t wanted[PULXARRID_STATE_WORDS] = {0};
+    uint64_t before[PULXARRID_MEMORY_LEAST];
+    uint64_t *package = memory + 16 * 255;
+    unsigned n;
+
+    memset(memory, 0xFF, sizeof memory);
+    for (n = 0; n < 8; n++) {
+        package[n] = 0xFFFF000000000000 | (0x100000 + n);
+        package[8 + n] = 0x8000000000000000 + n;
+        wanted[PULXARRID_A + n] = 0x100000 + n;
+        wanted[PULXARRID_S + n] = 0x8000000000000000 + n;
+    }
+    package[0] |= UINT64_C(0xABCDEF) << 24;
+    package[1] |= UINT64_C(0x1ABCD) << 29;
+    package[2] |= UINT64_C(0x1BCDE) << 29 | UINT64_C(0x15) << 24;
+    package[3] |= UINT64_C(0xA5) << 40 | UINT64_C(65) << 33 | UINT64_C(0x1FF) << 24;
+    package[4] |= UINT64_C(0x1CDEF) << 29 | UINT64_C(1) << 28 | UINT64_C(2) << 24;
+    package[5] |= UINT64_C(0x1DEF0) << 29;
+    wanted[PULXARRID_P] = 0xABCDEF;
+    wanted[PULXARRID_IBA] = 0x1ABCD;
+    wanted[PULXARRID_ILA] = 0x1BCDE;
+    wanted[PULXARRID_MM] = 1;
+    wanted[PULXARRID_IFP] = 1;
+    wanted[PULXARRID_BDM] = 1;
+    wanted[PULXARRID_XA] = 0xA5;
+    wanted[PULXARRID_VL] = 1;
+    wanted[PULXARRID_DBA] = 0x1CDEF;
+    wanted[PULXARRID_PS] = 1;
+    wanted[PULXARRID_CLN] = 2;
+    wanted[PULXARRID_DLA] = 0x1DEF0;
+    wanted[PULXARRID_PROCESSOR] = 1;
+    memcpy(before, memory, sizeof memory);
+    memset(state, 0xEE, sizeof state);
+    check(pulxarrid_start(state, memory, 4096, 255, 1) == 0, "start");
+    check(memcmp(state, wanted, sizeof state) == 0, "start fills each place");
+    check(memcmp(memory, before, sizeof memory) == 0, "start only reads");
+}
+
+/* Four steps, an exchange that finds nothing to do, and the kinds of answers. */
+static void step(void)
+{
+    put_sum();
+    check(pulxarrid_start(state, memory, 4096, 0, 0) == 0, "start of the sum");
+    check(state[PULXARRID_VL] == 64, "VL of 0 is 64");
+    check(is(pulxarrid_step(state, memory, 4096, answer), answer, PULXARRID_STEPPED, 0), "step 1");
+    check(state[PULXARRID_A + 1] == 5 && state[PULXARRID_P] == 1, "A1 is 5");
+    check(is(pulxarrid_step(state, memory, 4096, answer), answer, PULXARRID_STEPPED, 0), "step 2");
+    check(state[PULXARRID_A + 2] == 7 && state[PULXARRID_P] == 2, "A2 is 7");
+    check(is(pulxarrid_step(state, memory, 4096, answer), answer, PULXARRID_STEPPED, 0), "step 3");
+    check(state[PULXARRID_A + 3] == 12 && memory[0x800] == 0, "A3 is 12");
+    check(is(pulxarrid_step(state, memory, 4096, answer), answer, PULXARRID_STEPPED, 0), "step 4");
+    check(memory[0x800] == 12 && state[PULXARRID_P] == 5, "the sum is stored");
+    check(is(pulxarrid_step(state, memory, 4096, answer), answer, PULXARRID_EXCHANGED, PULXARRID_ERROR_EXIT),
+          "an error exit");
+    check(state[PULXARRID_P] == 0 && state[PULXARRID_A + 3] == 0 && memory[3] >> 24 == 0x8002,
+          "the package is loaded, and the program saved");
+
+    memory[0x400] = UINT64_C(0x0001000000000000);
+    state[PULXARRID_P] = 0;
+    check(is(pulxarrid_step(state, memory, 4096, answer), answer, PULXARRID_NOT_HELD, 0), "000001 is not held");
+    state[PULXARRID_MM] = 1;
+    state[PULXARRID_P] = 0x1000;
+    check(is(pulxarrid_step(state, memory, 4096, answer), answer, PULXARRID_MONITOR_FETCH, 0x1000), "a monitor fetch");
+    check(state[PULXARRID_P] == 0x1000, "a stop changes nothing");
+}
+
+static void run(void)
+{
+    put_sum();
+    pulxarrid_start(state, memory, 4096, 0, 0);
+    memcpy(other, state, sizeof state);
+    check(is(pulxarrid_run(state, memory, 4096, 0, report), report, PULXARRID_BUDGET_SPENT, 0) && report[2] == 0,
+          "a run with no budget");
+    check(memcmp(other, state, sizeof state) == 0, "changes nothing");
+    check(is(pulxarrid_run(state, memory, 4096, 4, report), report, PULXARRID_BUDGET_SPENT, 0) && report[2] == 4,
+          "a run of four steps");
+    check(memory[0x800] == 12 && state[PULXARRID_P] == 5, "stores the sum");
+    memory[0x401] = UINT64_C(0x00000C0000050000); /* 006000 000005: J 5, at parcel 5 */
+    check(is(pulxarrid_run(state, memory, 4096, PULXARRID_BUDGET_MOST, report), report, PULXARRID_BUDGET_SPENT, 0)
+          && report[2] == PULXARRID_BUDGET_MOST, "a run of a million steps");
+    put_sum();
+    memory[0x401] = UINT64_C(0x0000000100000000);
+    pulxarrid_start(state, memory, 4096, 0, 0);
+    check(is(pulxarrid_run(state, memory, 4096, 100, report), report, PULXARRID_NOT_HELD, 5) && report[2] == 4,
+          "a run that stops");
+}
+
+/* The first counts in A1 for ever; the second stores a number and stops. */
+static void pair_run(void)
+{
+    static const uint8_t turns[] = {0, 1, 0, 1, 1, 0};
+    uint64_t x[PULXARRID_STATE_WORDS], y[PULXARRID_STATE_WORDS];
+
+    memset(memory, 0, sizeof memory);
+    put_package(memory, 1, 0x400, 0x420, 0x800, 0x900, 0, 0);
+    put_package(memory, 2, 0x420, 0x440, 0x800, 0x900, 0, 0);
+    memory[0x400] = UINT64_C(0x30480C0000000000); /* 030110 A1 A1+1; 006000 000000 J 0 */
+    memory[0x420] = UINT64_C(0x2443904000050001); /* 022103 A1 3; 110100 000005 5,0 A1; 000001, not held */
+    check(pulxarrid_start(state, memory, 4096, 1, 0) == 0, "start of the first");
+    check(pulxarrid_start(other, memory, 4096, 2, 1) == 0, "start of the second");
+    memcpy(x, state, sizeof x);
+    memcpy(y, other, sizeof y);
+    check(is(pulxarrid_pair_run(state, other, memory, 4096, turns, 0, report), report, PULXARRID_NOTHING, 0)
+          && report[2] == 0, "an empty schedule");
+    check(memcmp(state, x, sizeof x) == 0 && memcmp(other, y, sizeof y) == 0, "does nothing");
+    check(is(pulxarrid_pair_run(state, other, memory, 4096, turns, 4, report), report, PULXARRID_STEPPED, 0)
+          && report[2] == 4, "four turns");
+    check(state[PULXARRID_A + 1] == 1 && state[PULXARRID_P] == 0, "the first counted and jumped");
+    check(other[PULXARRID_A + 1] == 3 && other[PULXARRID_P] == 3 && memory[0x805] == 3, "the second stored");
+    check(is(pulxarrid_pair_run(state, other, memory, 4096, turns + 4, 2, report), report, PULXARRID_NOT_HELD, 3)
+          && report[2] == 0, "a stop ends a pair run");
+    check(state[PULXARRID_A + 1] == 1, "before the next turn");
+}
+
+/* All that a call was lent, as it was before. */
+static struct {
+    uint64_t state[PULXARRID_STATE_WORDS], other[PULXARRID_STATE_WORDS];
+    uint64_t memory[PULXARRID_MEMORY_LEAST], answer[2], report[3];
+} found;
+
+static void remember(void)
+{
+    memcpy(found.state, state, sizeof state);
+    memcpy(found.other, other, sizeof other);
+    memcpy(found.memory, memory, sizeof memory);
+    memcpy(found.answer, answer, sizeof answer);
+    memcpy(found.report, report, sizeof report);
+}
+
+static void refused(uint64_t number, uint64_t wanted, const char *what)
+{
+    check(number == wanted, what);
+    check(memcmp(found.state, state, sizeof state) == 0 && memcmp(found.other, other, sizeof other) == 0
+          && memcmp(found.memory, memory, sizeof memory) == 0 && memcmp(found.answer, answer, sizeof answer) == 0
+          && memcmp(found.report, report, sizeof report) == 0, "a refused call alters nothing");
+}
+
+static void good_states(void)
+{
+    put_sum();
+    pulxarrid_start(state, memory, 4096, 0, 0);
+    pulxarrid_start(other, memory, 4096, 0, 1);
+    memset(answer, 0xAA, sizeof answer);
+    memset(report, 0xAA, sizeof report);
+    remember();
+}
+
+/* Sets a word of the first state, and has each call refuse it. */
+static void bad_word(unsigned place, uint64_t value, uint64_t wanted, const char *what)
+{
+    static const uint8_t turns[] = {0, 1};
+    good_states();
+    state[place] = value;
+    remember();
+    refused(pulxarrid_step(state, memory, 4096, answer), wanted, what);
+    refused(pulxarrid_run(state, memory, 4096, 1, report), wanted, what);
+    refused(pulxarrid_run(state, memory, 4096, 0, report), wanted, what);
+    refused(pulxarrid_pair_run(state, other, memory, 4096, turns, 2, report), wanted, what);
+    if (place != PULXARRID_PROCESSOR) {
+        state[PULXARRID_PROCESSOR] = 1;
+        other[PULXARRID_PROCESSOR] = 0;
+        remember();
+        refused(pulxarrid_pair_run(other, state, memory, 4096, turns, 2, report), wanted, what);
+    }
+}
+
+static void refusals(void)
+{
+    static uint8_t turns[PULXARRID_SCHEDULE_MOST + 1];
+    static const struct { unsigned place; uint64_t value; } wide[] = {
+        {PULXARRID_P, 1 << 24}, {PULXARRID_XA, 256}, {PULXARRID_VL, 0}, {PULXARRID_VL, 65},
+        {PULXARRID_IBA, 1 << 17}, {PULXARRID_ILA, 1 << 17}, {PULXARRID_DBA, 1 << 17}, {PULXARRID_DLA, 1 << 17},
+        {PULXARRID_MM, 2}, {PULXARRID_IOR, 2}, {PULXARRID_IFP, 2}, {PULXARRID_FPS, 2}, {PULXARRID_BDM, 2},
+        {PULXARRID_PS, 2}, {PULXARRID_CLN, 4}, {PULXARRID_A, 1 << 24}, {PULXARRID_A + 7, UINT64_MAX},
+        {PULXARRID_B, 1 << 24}, {PULXARRID_B + 63, UINT64_MAX}
+    };
+    unsigned n;
+
+    good_states();
+    refused(pulxarrid_start(state, memory, 4095, 0, 0), PULXARRID_BAD_MEMORY, "a start in 4,095 words");
+    refused(pulxarrid_step(state, memory, 4095, answer), PULXARRID_BAD_MEMORY, "a step in 4,095 words");
+    refused(pulxarrid_run(state, memory, 4095, 1, report), PULXARRID_BAD_MEMORY, "a run in 4,095 words");
+    refused(pulxarrid_pair_run(state, other, memory, 4095, turns, 2, report), PULXARRID_BAD_MEMORY,
+            "a pair run in 4,095 words");
+    refused(pulxarrid_run(state, memory, 0, 1, report), PULXARRID_BAD_MEMORY, "a run in no words");
+    refused(pulxarrid_start(state, memory, 4096, 256, 0), PULXARRID_BAD_PACKAGE, "package 256");
+    refused(pulxarrid_start(state, memory, 4096, UINT64_MAX, 2), PULXARRID_BAD_PACKAGE, "a bad package comes before a bad processor");
+    refused(pulxarrid_run(state, memory, 4096, 1000001, report), PULXARRID_BAD_BUDGET, "a budget of 1,000,001");
+    refused(pulxarrid_start(state, memory, 4096, 0, 2), PULXARRID_BAD_PROCESSOR, "a start of processor 2");
+    refused(pulxarrid_pair_run(other, state, memory, 4096, turns, 2, report), PULXARRID_BAD_PROCESSOR, "the two the wrong way round");
+    refused(pulxarrid_pair_run(state, other, memory, 4096, turns, 65537, report), PULXARRID_BAD_SCHEDULE_LENGTH, "65,537 turns");
+    turns[1] = 2;
+    refused(pulxarrid_pair_run(state, other, memory, 4096, turns, 2, report), PULXARRID_BAD_SCHEDULE_BYTE, "a turn of 2");
+    turns[1] = 0;
+    bad_word(PULXARRID_PROCESSOR, 2, PULXARRID_BAD_PROCESSOR, "processor 2");
+    for (n = 0; n < sizeof wide / sizeof *wide; n++)
+        bad_word(wide[n].place, wide[n].value, PULXARRID_BAD_STATE, "a number too wide for its register");
+    good_states();
+    check(pulxarrid_pair_run(state, other, memory, 4096, turns, 65536, report) == 0, "65,536 turns");
+}
+
+/* A memory of the most words is lent whole, and one word more is refused. No
+ * limit reaches its last 32 words: the highest is (2^17 - 1) * 32. */
+static void largest(void)
+{
+    size_t words = PULXARRID_MEMORY_MOST, top = words - 64;
+    uint64_t *m = calloc(words + 1, sizeof *m);
+
+    if (!m) {
+        check(0, "32 MB of memory");
+        return;
+    }
+    put_package(m, 0, top, top + 32, top, top + 32, 0, 0);
+    m[top] = UINT64_C(0x24459040001F0001); /* 022105 A1 5; 110100 000037 37,0 A1; 000001, not held */
+    m[words] = 0x77;
+    check(pulxarrid_start(state, m, words, 0, 0) == 0, "a start in 4,194,304 words");
+    check(is(pulxarrid_run(state, m, words, 10, report), report, PULXARRID_NOT_HELD, 3) && report[2] == 2,
+          "a run in the last words that a field reaches");
+    check(m[top + 31] == 5 && m[top + 32] == 0 && m[words] == 0x77, "stores there");
+    check(pulxarrid_run(state, m, words + 1, 10, report) == PULXARRID_BAD_MEMORY, "4,194,305 words are refused");
+    check(pulxarrid_start(state, m, words + 1, 0, 0) == PULXARRID_BAD_MEMORY, "by a start too");
+    free(m);
+}
+
+int main(void)
+{
+    places();
+    start();
+    step();
+    run();
+    pair_run();
+    refusals();
+    largest();
+    printf("%d passed, %d failed\n", passed, failed);
+    return failed != 0;
+}

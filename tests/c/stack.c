@@ -1,0 +1,97 @@
+/* How many bytes of stack a call takes: each is made in a thread whose stack is
+ * painted below the caller's frame before, and looked at after. */
+#define _POSIX_C_SOURCE 200809L
+#include "pulxarrid.h"
+
+#include <pthread.h>
+#include <stdio.h>
+#include <stdlib.h>
+#include <string.h>
+
+#define ROOM (256 * 1024)
+#define PAINT 0x5A
+/* What the caller's own frame and memset may take. It is left unpainted, and
+ * counts as taken. */
+#define SPARE 512
+#define LIMIT (32 * 1024)
+
+static uint64_t memory[4096], first[PULXARRID_STATE_WORDS], second[PULXARRID_STATE_WORDS];
+static uint64_t answer[2], report[3];
+static const uint8_t schedule[64] = {0, 1, 1, 0, 0, 1};
+
+static void start(void) { pulxarrid_start(first, memory, 4096, 0, 0); }
+static void step(void) { pulxarrid_step(first, memory, 4096, answer); }
+static void run(void) { pulxarrid_run(first, memory, 4096, 1000, report); }
+static void pair_run(void) { pulxarrid_pair_run(first, second, memory, 4096, schedule, 64, report); }
+
+static unsigned char *stack;
+static void (*what)(void);
+static size_t taken;
+
+static void *measure(void *unused)
+{
+    volatile unsigned char here = 0;
+    size_t below = (size_t)((unsigned char *)&here - stack), n = 0;
+
+    memset(stack, PAINT, below - SPARE);
+    what();
+    while (n < below - SPARE && stack[n] == PAINT)
+        n++;
+    taken = below - n;
+    return unused;
+}
+
+/* Whether a call could be measured. */
+static int measured(void (*call)(void))
+{
+    pthread_attr_t attributes;
+    pthread_t thread;
+    int good;
+
+    if (posix_memalign((void **)&stack, 4096, ROOM))
+        return 0;
+    what = call;
+    pthread_attr_init(&attributes);
+    good = !pthread_attr_setstack(&attributes, stack, ROOM)
+        && !pthread_create(&thread, &attributes, measure, NULL) && !pthread_join(thread, NULL);
+    free(stack);
+    return good;
+}
+
+/* The first example, which ends in an exchange. */
+static void prepare(void)
+{
+    memset(memory, 0, sizeof memory);
+    memory[1] = UINT64_C(0x400000000);
+    memory[2] = UINT64_C(0x800000000);
+    memory[4] = UINT64_C(0x800000000);
+    memory[5] = UINT64_C(0xC00000000);
+    memory[0x400] = UINT64_C(0x2445248730CA90C0);
+    pulxarrid_start(first, memory, 4096, 0, 0);
+    pulxarrid_start(second, memory, 4096, 0, 1);
+}
+
+int main(void)
+{
+    static const struct { const char *name; void (*call)(void); } calls[] = {
+        {"start", start}, {"step", step}, {"run", run}, {"pair run", pair_run}
+    };
+    unsigned n;
+    int passed = 0, failed = 0;
+
+    for (n = 0; n < sizeof calls / sizeof *calls; n++) {
+        /* once before, so that the linker has looked up all names */
+        prepare();
+        calls[n].call();
+        prepare();
+        if (measured(calls[n].call) && taken <= LIMIT) {
+            printf("stack of a %s: %zu bytes\n", calls[n].name, taken);
+            passed++;
+        } else {
+            printf("stack of a %s: %zu bytes, too many or not measured\n", calls[n].name, taken);
+            failed++;
+        }
+    }
+    printf("%d passed, %d failed\n", passed, failed);
+    return failed != 0;
+}
