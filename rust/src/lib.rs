@@ -4,6 +4,24 @@
 //! proved there; this file only gives the numbers names. The declarations of
 //! `extern "C"` are checked by nobody: a slice is a pointer and a length, an
 //! array one pointer.
+//!
+//! Two numbers are added, and the sum is stored:
+//!
+//! ```
+//! let mut memory = vec![0; 4_096];
+//! memory[1] = (0x400 / 32) << 29; // package 0: the instructions are in words 0400
+//! memory[2] = (0x800 / 32) << 29; // to 07FF,
+//! memory[4] = (0x800 / 32) << 29; // the data in words 0800
+//! memory[5] = (0xC00 / 32) << 29; // to 0BFF
+//! // 022105 A1 5; 022207 A2 7; 030312 A3 A1+A2; 110300 000000 0,0 A3
+//! memory[0x400] = 0x2445_2487_30CA_90C0;
+//! let mut state = pulxarrid::start(&memory, 0, 0)?;
+//! let ran = pulxarrid::run(&mut state, &mut memory, 4)?;
+//! assert_eq!((ran.steps, memory[0x800]), (4, 12));
+//! # Ok::<(), pulxarrid::Refused>(())
+//! ```
+
+use std::fmt;
 
 /// The words of a processor.
 pub const STATE_WORDS: usize = 672;
@@ -138,6 +156,22 @@ pub enum Refused {
     ScheduleByte = 6,
     State = 7,
 }
+
+impl fmt::Display for Refused {
+    fn fmt(&self, f: &mut fmt::Formatter) -> fmt::Result {
+        f.write_str(match self {
+            Refused::Memory => "memory has fewer than 4,096 or more than 4,194,304 words",
+            Refused::Package => "the package is over 255",
+            Refused::Budget => "the budget is over 1,000,000",
+            Refused::Processor => "a processor has another number than it may have",
+            Refused::ScheduleLength => "the schedule has over 65,536 bytes",
+            Refused::ScheduleByte => "a byte of the schedule is over 1",
+            Refused::State => "a processor holds a number too wide for its register",
+        })
+    }
+}
+
+impl std::error::Error for Refused {}
 
 impl Refused {
     /// Done, or why not.

@@ -315,8 +315,13 @@ fn pair_runs_with_any_schedule() {
             _ => {}
         }
         let longest = if draw.below(100) == 0 { 65_540 } else { 60 };
+        let (mut turn, often) = (draw.bits(1) as u8, 1 + draw.below(20));
         let mut schedule: Vec<u8> = (0..draw.below(longest))
-            .map(|_| draw.bits(1) as u8)
+            .map(|_| {
+                // one in `often` changes processor, so that turns are of all lengths
+                turn ^= u8::from(draw.below(often) == 0);
+                turn
+            })
             .collect();
         if draw.below(50) == 0 && !schedule.is_empty() {
             let at = draw.below(schedule.len() as u64) as usize;
