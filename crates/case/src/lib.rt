@@ -32,9 +32,11 @@ fn run_package(mem: &mut [u64], steps: u64) -> Ran
     xmp::run(started.state, mem, steps)
 }
 
-// Writes the answer to a sheet at the start of out, as much of it as fits, and answers its whole length.
+// Writes the answer to a sheet at the start of out, as much of it as fits, and answers its whole length: at most 22 bytes for
+// each word of memory, and 8,192 besides.
 pub fn answer(sheet: &[u8], out: &mut [u8]) -> usize
     ensures { λ r. ⌜ Wrote (now (out .entry)) 0 (answerOf (now (sheet .entry))) (now (out .exit)) r ⌝ }
+    ensures { λ r. ⌜ r ≤ 98304 ⌝ }
 {
     let mut mem = [0u64; 4096];
     match text::read(sheet, &mut mem) {

@@ -54,7 +54,7 @@ sets-snoc l i (x ∷ xs) y =
     let e : suc i + length xs ≡ i + suc (length xs) = omega arith in
     sets-snoc (set l i x) (suc i) xs y ∙ ap (λ (k : ℕ). sets (set (set l i x) k y) (suc i) xs) e ∙ ap (λ (m : List ℕ). sets m (suc i) xs) (set-comm l i (i + suc (length xs)) x y apart)
 
-digits-length : (b k n : ℕ) → length (digits b k n) ≡ k
+pub digits-length : (b k n : ℕ) → length (digits b k n) ≡ k
 unfolding digits
 digits-length b zero n = refl
 digits-length b (suc k) n = length-append (digits b k (n / b)) (glyphOf (n % b) ∷ []) ∙ ap (λ (m : ℕ). m + 1) (digits-length b k (n / b)) ∙ add-one k

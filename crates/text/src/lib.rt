@@ -1,6 +1,6 @@
 // The case sheet: its reader and its report, over lent bytes and words.
 ghost use mathlib.Core.Path.{_≡_};
-ghost use Prim.Native.Nat.{_+_, _≤_, _<_};
+ghost use Prim.Native.Nat.{_+_, _*_, _≤_, _<_};
 ghost use lib.ListN.{length, set};
 ghost use lib.Seq.{sets};
 ghost use Rattle.text.specs.Digits.{byteAt, isDecimal, isLetter, isHex, hexOf, hexFrom, glyphOf, digits, placesOf, shown};
@@ -537,10 +537,11 @@ fn put_changes(out: &mut [u8], at: usize, before: &[u64], after: &[u64], n: usiz
     to
 }
 
-// How many words differ, and which.
+// How many words differ, and which. Up to 65,536 words an address has four digits, and so a word's line 22 bytes.
 fn put_changed(out: &mut [u8], at: usize, before: &[u64], after: &[u64]) -> usize
     requires { ⌜ at ≤ 9000 ⌝ }
     ensures { λ r. ⌜ Wrote (now (out .entry)) at (changedLines (now (before .entry)) (now (after .entry))) (now (out .exit)) r ⌝ }
+    ensures { λ r. ⌜ (length (now (before .entry)) ≤ 65536 → r ≤ at + 136 + 22 * length (now (before .entry))) ⌝ }
 {
     let n = compared(before, after);
     let count = count_changes(before, after, n);
@@ -559,6 +560,7 @@ pub fn report(
     out: &mut [u8],
 ) -> usize
     ensures { λ r. ⌜ Wrote (now (out .entry)) 0 (reportOf last steps st (now (before .entry)) (now (after .entry))) (now (out .exit)) r ⌝ }
+    ensures { λ r. ⌜ (length (now (before .entry)) ≤ 65536 → r ≤ 8192 + 22 * length (now (before .entry))) ⌝ }
 {
     let r = st.registers;
     let fr = st.frame;
@@ -571,7 +573,7 @@ pub fn report(
 
 // The same of a bad sheet, by its line.
 pub fn refused(line: u64, out: &mut [u8]) -> usize
-    ensures { λ r. ⌜ Wrote (now (out .entry)) 0 (refusedOf line) (now (out .exit)) r ⌝ }
+    ensures { λ r. ⌜ Wrote (now (out .entry)) 0 (refusedOf line) (now (out .exit)) r × (r ≤ 136) ⌝ }
 {
     put_line(out, 0, b"refused=8\nline=", line, 10, 1)
 }

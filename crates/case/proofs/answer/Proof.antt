@@ -1,6 +1,7 @@
 use Rattle.machine.specs.Run.{zeros}
 use Rattle.case.proofs.Laws.{good-most, good-answer, bad-answer}
 use mathlib.Core.Path.{sym, _∙_}
+use native.Mathlib.Omega.{arith}
 use borrow.Author.Needs.{needs}
 use Rattle.case.proofs.answer.Statement.{statement}
 use Rattle.case.proofs.answer.Tie as tie
@@ -43,13 +44,16 @@ same-length c = search needs
 
 returns : tie.Need-returns
 unfolding zeros
-returns c = rw (← good-answer (c .before .before .before .before .before .before .before .before .before .before .before .before .before .before .before .before .before .before .args .sheet .now) _ _ _ _ _ _ (sym (c .before .before .before .before .before .before .before .before .before .before .before .before .before .before .read .ensures .0) ∙ c .before .before .before .before .before .before .before .before .before .before .before .steps .given .1) (c .before .before .before .before .before .before .before .before .before .before .before .before .before .before .read .ensures .1) (c .before .before .before .before .before .before .before .before .run-package .ensures), ← c .before .before .before .before .before .before .last-of .ensures) (c .before .before .report .ensures)
+returns c = (
+  rw (← good-answer (c .before .before .before .before .before .before .before .before .before .before .before .before .before .before .before .before .before .before .args .sheet .now) _ _ _ _ _ _ (sym (c .before .before .before .before .before .before .before .before .before .before .before .before .before .before .read .ensures .0) ∙ c .before .before .before .before .before .before .before .before .before .before .before .steps .given .1) (c .before .before .before .before .before .before .before .before .before .before .before .before .before .before .read .ensures .1) (c .before .before .before .before .before .before .before .before .run-package .ensures), ← c .before .before .before .before .before .before .last-of .ensures) (c .before .before .report .ensures .0),
+  omega (arith, c .before .before .report .ensures .1 (omega arith)),
+)
 
 same-length-2 : tie.Need-same-length-2
 same-length-2 c = search needs
 
 returns-2 : tie.Need-returns-2
-returns-2 c = rw (← bad-answer (c .before .before .before .before .before .before .before .before .before .before .before .before .args .sheet .now) _ (sym (c .before .before .before .before .before .before .before .before .read .ensures .0) ∙ c .before .before .before .before .before .line .given .1)) (c .before .before .refused .ensures)
+returns-2 c = (rw (← bad-answer (c .before .before .before .before .before .before .before .before .before .before .before .before .args .sheet .now) _ (sym (c .before .before .before .before .before .before .before .before .read .ensures .0) ∙ c .before .before .before .before .before .line .given .1)) (c .before .before .refused .ensures .0), omega arith)
 
 pub answer-spec : {M : Type 1} → statement M
 answer-spec =

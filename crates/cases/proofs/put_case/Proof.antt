@@ -56,16 +56,13 @@ array-share-prefix-out : tie.Need-array-share-prefix-out
 array-share-prefix-out c = search needs
 
 slice-aggregate-write-all-4 : tie.Need-slice-aggregate-write-all-4
-slice-aggregate-write-all-4 c = let r = c .before .before .before .answer in sym (length-take-le (r .result) (r .last .1 .0) (search needs))
+slice-aggregate-write-all-4 c = let r = c .before .before .answer in sym (length-take-le (r .result) (r .last .1 .0) (search needs))
 
 write-all-requires-4 : tie.Need-write-all-requires-4
 write-all-requires-4 c κs = search needs
 
 returns : tie.Need-returns
 returns c = search needs
-
-returns-2 : tie.Need-returns-2
-returns-2 c = search needs
 
 pub put-case-spec : {M : Type 1} → statement M
 put-case-spec =
@@ -90,5 +87,4 @@ put-case-spec =
     array-share-prefix-out
     slice-aggregate-write-all-4
     write-all-requires-4
-    returns
-    returns-2)
+    returns)

@@ -29,127 +29,97 @@ Inv-lines text start count left₀ at₀ low₀ line₀ left at low line = (left
 abbrev μ-lines : tie.MeasureT-lines
 μ-lines text start count left₀ at₀ low₀ line₀ left at low line = left
 
--- src/lib.rt:185:9
 lines-holds : tie.Need-lines-holds Inv-loop μ-loop Inv-loop2 μ-loop2 Inv-lines μ-lines
 lines-holds c = (omega arith, refl, omega arith, refl)
 
--- src/lib.rt:193:9
 loop-holds : tie.Need-loop-holds Inv-loop μ-loop Inv-loop2 μ-loop2 Inv-lines μ-lines
 loop-holds c = (omega arith, omega arith, simp add-zero, simp add-zero)
 
--- src/lib.rt:194:35
 add-byte-at : tie.Need-add-byte-at Inv-loop μ-loop Inv-loop2 μ-loop2 Inv-lines μ-lines
 add-byte-at c = omega arith
 
--- src/lib.rt:194:17
 byte-at-requires : tie.Need-byte-at-requires Inv-loop μ-loop Inv-loop2 μ-loop2 Inv-lines μ-lines
 byte-at-requires c κs = search needs
 
--- src/lib.rt:195:17
 is-hex-requires : tie.Need-is-hex-requires Inv-loop μ-loop Inv-loop2 μ-loop2 Inv-lines μ-lines
 is-hex-requires c κs = search needs
 
--- src/lib.rt:198:23
 mul-address : tie.Need-mul-address Inv-loop μ-loop Inv-loop2 μ-loop2 Inv-lines μ-lines
 mul-address c = omega (arith, digits-most 16 _ _ 4 (lit< tt) (c .before .before .before .before .loop .inv .1) (c .before .before .before .before .loop .inv .0))
 
--- src/lib.rt:198:38
 hex-of-requires : tie.Need-hex-of-requires Inv-loop μ-loop Inv-loop2 μ-loop2 Inv-lines μ-lines
 hex-of-requires c κs = search needs
 
--- src/lib.rt:198:23
 add-address : tie.Need-add-address Inv-loop μ-loop Inv-loop2 μ-loop2 Inv-lines μ-lines
 add-address c = omega (arith, digits-most 16 _ _ 4 (lit< tt) (c .before .before .before .before .before .loop .inv .1) (c .before .before .before .before .before .loop .inv .0))
 
--- src/lib.rt:193:13
 add-d : tie.Need-add-d Inv-loop μ-loop Inv-loop2 μ-loop2 Inv-lines μ-lines
 add-d c = omega arith
 
--- src/lib.rt:193:9
 loop-less : tie.Need-loop-less Inv-loop μ-loop Inv-loop2 μ-loop2 Inv-lines μ-lines
 loop-less c = omega arith
 
--- src/lib.rt:193:9
 loop-again : tie.Need-loop-again Inv-loop μ-loop Inv-loop2 μ-loop2 Inv-lines μ-lines
 loop-again c = (omega arith, digit-more 16 _ _ _ (c .before .before .before .before .before .loop .inv .1) (c .hex-of .ensures .1), c .before .before .before .before .before .loop .inv .2 ∙ all-next _ _ 4 _ (c .before .before .before .before .loop-test .taken) _ (c .before .before .before .byte-at .ensures) (sym (c .before .before .is-hex .ensures) ∙ not-false _ (c .before .if3 .left)), c .before .before .before .before .before .loop .inv .3 ∙ hex-next _ _ 4 _ (c .before .before .before .before .loop-test .taken) _ (c .before .before .before .byte-at .ensures) _ _ (c .hex-of .ensures .0))
 
--- src/lib.rt:200:9
 loop2-holds : tie.Need-loop2-holds Inv-loop μ-loop Inv-loop2 μ-loop2 Inv-lines μ-lines
 loop2-holds c = (omega arith, omega arith, refl)
 
--- src/lib.rt:201:38
 add-byte-at-2 : tie.Need-add-byte-at-2 Inv-loop μ-loop Inv-loop2 μ-loop2 Inv-lines μ-lines
 add-byte-at-2 c = omega arith
 
--- src/lib.rt:201:24
 byte-at-requires-2 :
     tie.Need-byte-at-requires-2 Inv-loop μ-loop Inv-loop2 μ-loop2 Inv-lines μ-lines
 byte-at-requires-2 c κs = search needs
 
--- src/lib.rt:201:17
 is-hex-requires-2 : tie.Need-is-hex-requires-2 Inv-loop μ-loop Inv-loop2 μ-loop2 Inv-lines μ-lines
 is-hex-requires-2 c κs = search needs
 
--- src/lib.rt:200:13
 add-d-2 : tie.Need-add-d-2 Inv-loop μ-loop Inv-loop2 μ-loop2 Inv-lines μ-lines
 add-d-2 c = omega arith
 
--- src/lib.rt:200:9
 loop2-less : tie.Need-loop2-less Inv-loop μ-loop Inv-loop2 μ-loop2 Inv-lines μ-lines
 loop2-less c = omega arith
 
--- src/lib.rt:200:9
 loop2-again : tie.Need-loop2-again Inv-loop μ-loop Inv-loop2 μ-loop2 Inv-lines μ-lines
 loop2-again c = (omega arith, omega arith, c .before .before .before .before .loop2 .inv .2 ∙ all-next _ _ 21 _ (c .before .before .before .loop2-test .taken) _ (c .before .before .byte-at2 .ensures) (sym (c .before .is-hex2 .ensures) ∙ not-false _ (c .if4 .left)))
 
--- src/lib.rt:205:13
 is-framed-requires :
     tie.Need-is-framed-requires Inv-loop μ-loop Inv-loop2 μ-loop2 Inv-lines μ-lines
 is-framed-requires c κs = omega arith
 
--- src/lib.rt:208:15
 add-low : tie.Need-add-low Inv-loop μ-loop Inv-loop2 μ-loop2 Inv-lines μ-lines
 add-low c = omega (arith, digits-most 16 _ _ 4 (lit< tt) (c .before .before .before .before .before .loop .inv .1) (c .before .before .before .before .before .loop .inv .0))
 
--- src/lib.rt:209:9
 add-at : tie.Need-add-at Inv-loop μ-loop Inv-loop2 μ-loop2 Inv-lines μ-lines
 add-at c = omega arith
 
--- src/lib.rt:210:9
 sub-left : tie.Need-sub-left Inv-loop μ-loop Inv-loop2 μ-loop2 Inv-lines μ-lines
 sub-left c = omega arith
 
--- src/lib.rt:211:9
 add-line : tie.Need-add-line Inv-loop μ-loop Inv-loop2 μ-loop2 Inv-lines μ-lines
 add-line c = omega arith
 
--- src/lib.rt:185:9
 lines-less : tie.Need-lines-less Inv-loop μ-loop Inv-loop2 μ-loop2 Inv-lines μ-lines
 lines-less c = omega arith
 
--- src/lib.rt:185:9
 lines-again : tie.Need-lines-again Inv-loop μ-loop Inv-loop2 μ-loop2 Inv-lines μ-lines
 lines-again c = let spelled = c .before .before .before .before .before .loop .inv .3 ∙ hex-done _ _ 4 _ (c .before .before .before .before .loop-test .left) _ in (omega arith, omega arith, omega arith, c .before .before .before .before .before .before .before .lines .inv .3 ∙ line-good _ _ _ _ _ _ (omega arith) spelled (all-digits _ _ _ (c .before .before .before .before .before .loop .inv .2 ∙ all-done _ _ 4 _ (c .before .before .before .before .loop-test .left)) _ spelled (c .before .before .before .loop2 .inv .2 ∙ all-done _ _ 21 _ (c .before .before .loop2-test .left)) ∙ sym (c .before .is-framed .ensures) ∙ not-false _ (c .if5 .left)))
 
--- src/lib.rt:177:1
 returns : tie.Need-returns Inv-loop μ-loop Inv-loop2 μ-loop2 Inv-lines μ-lines
 unfolding badLine
 returns c = sym (c .before .before .lines .inv .3 ∙ simp (c .before .if1 .taken, eq-eqb _ _ (c .if2 .taken)))
 
--- src/lib.rt:177:1
 returns-2 : tie.Need-returns-2 Inv-loop μ-loop Inv-loop2 μ-loop2 Inv-lines μ-lines
 unfolding badLine
 returns-2 c = sym (c .before .before .lines .inv .3 ∙ simp (c .before .if1 .taken, ne-eqb _ _ (c .if2 .left)))
 
--- src/lib.rt:177:1
 returns-3 : tie.Need-returns-3 Inv-loop μ-loop Inv-loop2 μ-loop2 Inv-lines μ-lines
 returns-3 c = sym (c .before .before .before .before .before .before .lines .inv .3 ∙ line-bad _ _ _ _ _ (omega arith) (no-address _ _ _ (c .before .before .before .before .loop .inv .2 ∙ all-not _ _ 4 _ (c .before .before .before .loop-test .taken) _ (c .before .before .byte-at .ensures) (sym (c .before .is-hex .ensures) ∙ not-true _ (c .if3 .taken)))))
 
--- src/lib.rt:177:1
 returns-4 : tie.Need-returns-4 Inv-loop μ-loop Inv-loop2 μ-loop2 Inv-lines μ-lines
 returns-4 c = sym (c .before .before .before .before .before .before .before .before .lines .inv .3 ∙ line-bad _ _ _ _ _ (omega arith) (no-value _ _ _ (c .before .before .before .before .before .before .loop .inv .2 ∙ all-done _ _ 4 _ (c .before .before .before .before .before .loop-test .left)) (c .before .before .before .before .loop2 .inv .2 ∙ all-not _ _ 21 _ (c .before .before .before .loop2-test .taken) _ (c .before .before .byte-at2 .ensures) (sym (c .before .is-hex2 .ensures) ∙ not-true _ (c .if4 .taken)))))
 
--- src/lib.rt:177:1
 returns-5 : tie.Need-returns-5 Inv-loop μ-loop Inv-loop2 μ-loop2 Inv-lines μ-lines
 returns-5 c = sym (c .before .before .before .before .before .before .before .lines .inv .3 ∙ line-bad _ _ _ _ _ (omega arith) (all-digits _ _ _ (c .before .before .before .before .before .loop .inv .2 ∙ all-done _ _ 4 _ (c .before .before .before .before .loop-test .left)) _ (c .before .before .before .before .before .loop .inv .3 ∙ hex-done _ _ 4 _ (c .before .before .before .before .loop-test .left) _) (c .before .before .before .loop2 .inv .2 ∙ all-done _ _ 21 _ (c .before .before .loop2-test .left)) ∙ sym (c .before .is-framed .ensures) ∙ not-true _ (c .if5 .taken)))
 

@@ -7,63 +7,49 @@ use borrow.Author.Needs.{needs}
 use Rattle.text.proofs.check.Statement.{statement}
 use Rattle.text.proofs.check.Tie as tie
 
--- src/lib.rt:222:9
 returns : tie.Need-returns
 unfolding checkOf
 returns c = (rw (lt-ltb _ _ (c .if1 .taken)), tt)
 
--- src/lib.rt:227:28
 slice-aggregate-head-line : tie.Need-slice-aggregate-head-line
 slice-aggregate-head-line c = search needs
 
--- src/lib.rt:227:9
 head-line-requires : tie.Need-head-line-requires
 head-line-requires c κs = search needs
 
--- src/lib.rt:225:17
 enum-known-steps : tie.Need-enum-known-steps
 enum-known-steps c = search needs
 
--- src/lib.rt:229:9
 enum-told : tie.Need-enum-told
 enum-told c = search needs
 
--- src/lib.rt:229:9
 returns-2 : tie.Need-returns-2
 unfolding checkOf afterSteps
 returns-2 c = (rw (le-ltb _ _ (c .before .before .before .before .if1 .left), ← c .before .before .head-line .ensures .0, c .enum-told .given .1), tt)
 
--- src/lib.rt:234:33
 slice-aggregate-head-line-2 : tie.Need-slice-aggregate-head-line-2
 slice-aggregate-head-line-2 c = search needs
 
--- src/lib.rt:234:9
 head-line-requires-2 : tie.Need-head-line-requires-2
 head-line-requires-2 c κs = omega (arith, subst (HeadFits 1000000 14) (c .before .before .steps .given .1) (c .before .before .before .before .head-line .ensures .1))
 
--- src/lib.rt:232:17
 enum-known-words : tie.Need-enum-known-words
 enum-known-words c = search needs
 
--- src/lib.rt:236:9
 enum-told-2 : tie.Need-enum-told-2
 enum-told-2 c = search needs
 
--- src/lib.rt:236:9
 returns-3 : tie.Need-returns-3
 unfolding checkOf afterSteps afterWords
 returns-3 c = (rw (le-ltb _ _ (c .before .before .before .before .before .before .before .before .before .if1 .left), ← c .before .before .before .before .before .before .before .head-line .ensures .0, c .before .before .before .before .before .steps .given .1, ← c .before .before .head-line2 .ensures .0, c .enum-told2 .given .1), tt)
 
--- src/lib.rt:239:9
 bad-line-requires : tie.Need-bad-line-requires
 bad-line-requires c κs = omega (arith, subst (HeadFits 1000000 14) (c .before .before .before .before .before .before .steps .given .1) (c .before .before .before .before .before .before .before .before .head-line .ensures .1), subst (HeadFits 1024 (c .before .before .before .before .before .before .steps .given .0 .1 .0 + 14)) (c .before .words .given .1) (c .before .before .before .head-line2 .ensures .1))
 
--- src/lib.rt:241:9
 returns-4 : tie.Need-returns-4
 unfolding checkOf afterSteps afterWords
 returns-4 c = (rw (le-ltb _ _ (c .before .before .before .before .before .before .before .before .before .before .before .before .if1 .left), ← c .before .before .before .before .before .before .before .before .before .before .head-line .ensures .0, c .before .before .before .before .before .before .before .before .steps .given .1, ← c .before .before .before .before .before .head-line2 .ensures .0, c .before .before .before .words .given .1, ← c .before .bad-line .ensures, ne-eqb _ _ (c .if2 .taken)), tt)
 
--- src/lib.rt:217:1
 returns-5 : tie.Need-returns-5
 unfolding checkOf afterSteps afterWords
 returns-5 c = (rw (le-ltb _ _ (c .before .before .before .before .before .before .before .before .before .before .before .before .if1 .left), ← c .before .before .before .before .before .before .before .before .before .before .head-line .ensures .0, c .before .before .before .before .before .before .before .before .steps .given .1, ← c .before .before .before .before .before .head-line2 .ensures .0, c .before .before .before .words .given .1, ← c .before .bad-line .ensures, eq-eqb _ _ (c .if2 .left)), omega (arith, subst (HeadFits 1000000 14) (c .before .before .before .before .before .before .before .before .steps .given .1) (c .before .before .before .before .before .before .before .before .before .before .head-line .ensures .1), subst (HeadFits 1024 (c .before .before .before .before .before .before .before .before .steps .given .0 .1 .0 + 14)) (c .before .before .before .words .given .1) (c .before .before .before .before .before .head-line2 .ensures .1)))

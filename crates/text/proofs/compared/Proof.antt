@@ -6,15 +6,12 @@ use borrow.Author.Needs.{needs}
 use Rattle.text.proofs.compared.Statement.{statement}
 use Rattle.text.proofs.compared.Tie as tie
 
--- src/lib.rt:492:11
 smaller-of-requires : tie.Need-smaller-of-requires
 smaller-of-requires c κs = search needs
 
--- src/lib.rt:492:5
 smaller-of-requires-2 : tie.Need-smaller-of-requires-2
 smaller-of-requires-2 c κs = search needs
 
--- src/lib.rt:489:1
 returns : tie.Need-returns
 returns c = (c .smaller-of2 .ensures .0 ∙ ap (λ (x : ℕ). smaller x 4194304) (c .before .smaller-of .ensures .0), omega arith, omega arith, omega arith)
 

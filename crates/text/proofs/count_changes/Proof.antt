@@ -15,47 +15,36 @@ Inv-loop before after n count₀ address₀ count address = (address ≤ n) × (
 abbrev μ-loop : tie.MeasureT-loop
 μ-loop before after n count₀ address₀ count address = n - address
 
--- src/lib.rt:509:5
 loop-holds : tie.Need-loop-holds Inv-loop μ-loop
 loop-holds c = (omega arith, omega arith, simp (sub-zero, zero-add))
 
--- src/lib.rt:510:26
 mul-differs : tie.Need-mul-differs Inv-loop μ-loop
 mul-differs c = search needs
 
--- src/lib.rt:510:26
 shared-slice-read-differs : tie.Need-shared-slice-read-differs Inv-loop μ-loop
 shared-slice-read-differs c = search needs
 
--- src/lib.rt:510:43
 mul-differs-2 : tie.Need-mul-differs-2 Inv-loop μ-loop
 mul-differs-2 c = search needs
 
--- src/lib.rt:510:43
 shared-slice-read-differs-2 : tie.Need-shared-slice-read-differs-2 Inv-loop μ-loop
 shared-slice-read-differs-2 c = search needs
 
--- src/lib.rt:510:18
 differs-requires : tie.Need-differs-requires Inv-loop μ-loop
 differs-requires c κs = search needs
 
--- src/lib.rt:510:9
 add-count : tie.Need-add-count Inv-loop μ-loop
 add-count c = omega arith
 
--- src/lib.rt:511:9
 add-address : tie.Need-add-address Inv-loop μ-loop
 add-address c = omega arith
 
--- src/lib.rt:509:5
 loop-less : tie.Need-loop-less Inv-loop μ-loop
 loop-less c = omega arith
 
--- src/lib.rt:509:5
 loop-again : tie.Need-loop-again Inv-loop μ-loop
 loop-again c = let a = c .before .before .before .before .before .before .before .args in let next = changes-next (now (a .before)) (now (a .after)) (a .n) (c .before .before .before .before .loop .address) (c .before .before .before .loop-test .taken) in (omega arith, omega arith, omega (arith, c .before .before .before .before .loop .inv .2, next, c .differs .ensures .0))
 
--- src/lib.rt:503:1
 returns : tie.Need-returns Inv-loop μ-loop
 returns c = let a = c .before .before .before .before .args in let done = changes-done (now (a .before)) (now (a .after)) (a .n) (c .before .loop .address) (c .loop-test .left) in omega (arith, c .before .loop .inv .2, done)
 

@@ -16,71 +16,54 @@ Inv-loop text at v₀ d₀ v d = (d ≤ 7) × (v < 10 ^ d) × (decimalFrom 7 tex
 abbrev μ-loop : tie.MeasureT-loop
 μ-loop text at v₀ d₀ v d = 7 - d
 
--- src/lib.rt:114:5
 loop-holds : tie.Need-loop-holds Inv-loop μ-loop
 loop-holds c = (omega arith, omega arith, simp add-zero)
 
--- src/lib.rt:115:31
 add-byte-at : tie.Need-add-byte-at Inv-loop μ-loop
 add-byte-at c = search needs
 
--- src/lib.rt:115:13
 byte-at-requires : tie.Need-byte-at-requires Inv-loop μ-loop
 byte-at-requires c κs = search needs
 
--- src/lib.rt:116:13
 is-decimal-requires : tie.Need-is-decimal-requires Inv-loop μ-loop
 is-decimal-requires c κs = search needs
 
--- src/lib.rt:117:31
 add-ends : tie.Need-add-ends Inv-loop μ-loop
 add-ends c = search needs
 
--- src/lib.rt:117:13
 ends-requires : tie.Need-ends-requires Inv-loop μ-loop
 ends-requires c κs = search needs
 
--- src/lib.rt:117:13
 returns : tie.Need-returns Inv-loop μ-loop
 returns c = let end : c .before .before .before .before .before .before .before .args .at + c .before .before .before .before .before .loop .d + 1 ≤ c .before .before .before .before .before .before .before .args .at + 8 = omega arith in let small : c .before .before .before .before .before .loop .v ≤ 10000000 = omega (arith, digits-most 10 _ _ 7 (lit< tt) (c .before .before .before .before .before .loop .inv .1) (c .before .before .before .before .before .loop .inv .0)) in (c .ends .ensures .0 ∙ sym (c .before .before .before .before .before .loop .inv .2 ∙ decimal-stop _ _ 7 _ (c .before .before .before .before .loop-test .taken) _ (c .before .before .before .byte-at .ensures) _ (sym (c .before .before .is-decimal .ensures) ∙ not-true _ (c .before .if1 .taken))), fits-more _ _ _ _ (c .ends .result) (c .ends .ensures .1) small end)
 
--- src/lib.rt:119:13
 mul-v : tie.Need-mul-v Inv-loop μ-loop
 mul-v c = omega (arith, digits-most 10 _ _ 7 (lit< tt) (c .before .before .before .before .loop .inv .1) (c .before .before .before .before .loop .inv .0))
 
--- src/lib.rt:119:23
 cast-v : tie.Need-cast-v Inv-loop μ-loop
 cast-v c = search needs
 
--- src/lib.rt:119:23
 sub-v : tie.Need-sub-v Inv-loop μ-loop
 sub-v c = omega (arith, decimal-range _ (sym (c .before .is-decimal .ensures) ∙ not-false _ (c .if1 .left)))
 
--- src/lib.rt:119:13
 add-v : tie.Need-add-v Inv-loop μ-loop
 add-v c = omega (arith, digits-most 10 _ _ 7 (lit< tt) (c .before .before .before .before .loop .inv .1) (c .before .before .before .before .loop .inv .0), decimal-range _ (sym (c .before .is-decimal .ensures) ∙ not-false _ (c .if1 .left)))
 
--- src/lib.rt:120:9
 add-d : tie.Need-add-d Inv-loop μ-loop
 add-d c = search needs
 
--- src/lib.rt:114:5
 loop-less : tie.Need-loop-less Inv-loop μ-loop
 loop-less c = search needs
 
--- src/lib.rt:114:5
 loop-again : tie.Need-loop-again Inv-loop μ-loop
 loop-again c = let good = sym (c .before .is-decimal .ensures) ∙ not-false _ (c .if1 .left) in let digit : c .before .before .byte-at .result - 48 < 10 = omega (arith, decimal-range _ good) in (omega arith, digit-more 10 _ _ _ (c .before .before .before .before .loop .inv .1) digit, c .before .before .before .before .loop .inv .2 ∙ decimal-next _ _ 7 _ (c .before .before .before .loop-test .taken) _ (c .before .before .byte-at .ensures) _ good)
 
--- src/lib.rt:122:16
 add-ends-2 : tie.Need-add-ends-2 Inv-loop μ-loop
 add-ends-2 c = search needs
 
--- src/lib.rt:122:5
 ends-requires-2 : tie.Need-ends-requires-2 Inv-loop μ-loop
 ends-requires-2 c κs = search needs
 
--- src/lib.rt:107:1
 returns-2 : tie.Need-returns-2 Inv-loop μ-loop
 returns-2 c = let end : c .before .before .before .before .args .at + c .before .before .loop .d + 1 ≤ c .before .before .before .before .args .at + 8 = omega arith in let small : c .before .before .loop .v ≤ 10000000 = omega (arith, digits-most 10 _ _ 7 (lit< tt) (c .before .before .loop .inv .1) (c .before .before .loop .inv .0)) in (c .ends2 .ensures .0 ∙ sym (c .before .before .loop .inv .2 ∙ decimal-done _ _ 7 _ (c .before .loop-test .left) _), fits-more _ _ _ _ (c .ends2 .result) (c .ends2 .ensures .1) small end)
 

@@ -6,20 +6,16 @@ use borrow.Author.Needs.{needs}
 use Rattle.text.proofs.ends.Statement.{statement}
 use Rattle.text.proofs.ends.Tie as tie
 
--- src/lib.rt:96:8
 byte-at-requires : tie.Need-byte-at-requires
 byte-at-requires c κs = search needs
 
--- src/lib.rt:99:19
 add-t7 : tie.Need-add-t7
 add-t7 c = search needs
 
--- src/lib.rt:91:1
 returns : tie.Need-returns
 unfolding endsAt
 returns c = (simp (eq-eqb _ 10 (sym (c .before .byte-at .ensures) ∙ c .if1 .taken)), omega arith)
 
--- src/lib.rt:91:1
 returns-2 : tie.Need-returns-2
 unfolding endsAt
 returns-2 c = (simp (ne-eqb _ 10 (λ q. c .if1 .left (c .before .byte-at .ensures ∙ q))), tt)

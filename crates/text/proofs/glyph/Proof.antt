@@ -4,28 +4,22 @@ use borrow.Author.Needs.{needs}
 use Rattle.text.proofs.glyph.Statement.{statement}
 use Rattle.text.proofs.glyph.Tie as tie
 
--- src/lib.rt:334:22
 cast-result : tie.Need-cast-result
 cast-result c = search needs
 
--- src/lib.rt:334:17
 add-result : tie.Need-add-result
 add-result c = search needs
 
--- src/lib.rt:334:44
 cast-result-2 : tie.Need-cast-result-2
 cast-result-2 c = search needs
 
--- src/lib.rt:334:39
 add-result-2 : tie.Need-add-result-2
 add-result-2 c = search needs
 
--- src/lib.rt:330:1
 returns : tie.Need-returns
 unfolding glyphOf
 returns c = rw (lt-ltb _ _ (c .if1 .taken))
 
--- src/lib.rt:330:1
 returns-2 : tie.Need-returns-2
 unfolding glyphOf
 returns-2 c = rw (le-ltb _ _ (c .if1 .left))

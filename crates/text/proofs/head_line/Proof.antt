@@ -9,42 +9,33 @@ use borrow.Author.Needs.{needs}
 use Rattle.text.proofs.head_line.Statement.{statement}
 use Rattle.text.proofs.head_line.Tie as tie
 
--- src/lib.rt:147:9
 starts-requires : tie.Need-starts-requires
 starts-requires c κs = search needs
 
--- src/lib.rt:148:9
 returns : tie.Need-returns
 unfolding headAt
 returns c = (rw (← c .before .starts .ensures, not-true (c .before .starts .result) (c .if1 .taken)), tt)
 
--- src/lib.rt:150:55
 add-number-at : tie.Need-add-number-at
 add-number-at c = search needs
 
--- src/lib.rt:150:39
 number-at-requires : tie.Need-number-at-requires
 number-at-requires c κs = search needs
 
--- src/lib.rt:150:22
 enum-known-number : tie.Need-enum-known-number
 enum-known-number c = search needs
 
--- src/lib.rt:151:9
 enum-told : tie.Need-enum-told
 enum-told c = search needs
 
--- src/lib.rt:151:9
 returns-2 : tie.Need-returns-2
 unfolding headAt upTo
 returns-2 c = (rw (← c .before .before .before .before .starts .ensures, not-false (c .before .before .before .before .starts .result) (c .before .before .before .if1 .left), ← c .before .before .number-at .ensures .0, c .enum-told .given .1), tt)
 
--- src/lib.rt:154:9
 returns-3 : tie.Need-returns-3
 unfolding headAt upTo
 returns-3 c = (rw (← c .before .before .before .before .before .before .starts .ensures, not-false (c .before .before .before .before .before .before .starts .result) (c .before .before .before .before .before .if1 .left), ← c .before .before .before .before .number-at .ensures .0, c .before .before .number .given .1, lt-leb _ _ (c .if2 .taken)), tt)
 
--- src/lib.rt:142:1
 returns-4 : tie.Need-returns-4
 unfolding headAt upTo
 returns-4 c = let fits = subst (HeadFits 10000000 (c .before .before .before .before .before .before .before .before .before .args .at + length (now (c .before .before .before .before .before .before .before .before .before .args .name)) + 8)) (c .before .before .number .given .1) (c .before .before .before .before .number-at .ensures .1) in (rw (← c .before .before .before .before .before .before .starts .ensures, not-false (c .before .before .before .before .before .before .starts .result) (c .before .before .before .before .before .if1 .left), ← c .before .before .before .before .number-at .ensures .0, c .before .before .number .given .1, le-leb _ _ (c .if2 .left)), (omega arith, omega (arith, fits .1)))

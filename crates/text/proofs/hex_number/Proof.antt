@@ -15,43 +15,33 @@ Inv-loop text at n v₀ d₀ v d = (d ≤ n) × (v < 16 ^ d) × (hexFrom n text 
 abbrev μ-loop : tie.MeasureT-loop
 μ-loop text at n v₀ d₀ v d = n - d
 
--- src/lib.rt:257:5
 loop-holds : tie.Need-loop-holds Inv-loop μ-loop
 loop-holds c = (omega arith, omega arith, simp (add-zero, sub-zero))
 
--- src/lib.rt:258:13
 mul-v : tie.Need-mul-v Inv-loop μ-loop
 mul-v c = omega (arith, digits-most 16 _ _ 15 (lit< tt) (c .before .loop .inv .1) (omega arith))
 
--- src/lib.rt:258:43
 add-byte-at : tie.Need-add-byte-at Inv-loop μ-loop
 add-byte-at c = omega arith
 
--- src/lib.rt:258:29
 byte-at-requires : tie.Need-byte-at-requires Inv-loop μ-loop
 byte-at-requires c κs = search needs
 
--- src/lib.rt:258:22
 hex-of-requires : tie.Need-hex-of-requires Inv-loop μ-loop
 hex-of-requires c κs = search needs
 
--- src/lib.rt:258:13
 add-v : tie.Need-add-v Inv-loop μ-loop
 add-v c = omega (arith, digits-most 16 _ _ 15 (lit< tt) (c .before .before .before .loop .inv .1) (omega arith))
 
--- src/lib.rt:259:9
 add-d : tie.Need-add-d Inv-loop μ-loop
 add-d c = omega arith
 
--- src/lib.rt:257:5
 loop-less : tie.Need-loop-less Inv-loop μ-loop
 loop-less c = omega arith
 
--- src/lib.rt:257:5
 loop-again : tie.Need-loop-again Inv-loop μ-loop
 loop-again c = (omega arith, digit-more 16 _ _ _ (c .before .before .before .loop .inv .1) (c .hex-of .ensures .1), c .before .before .before .loop .inv .2 ∙ hex-next _ _ _ _ (c .before .before .loop-test .taken) _ (c .before .byte-at .ensures) _ _ (c .hex-of .ensures .0))
 
--- src/lib.rt:251:1
 returns : tie.Need-returns Inv-loop μ-loop
 returns c = sym (c .before .loop .inv .2 ∙ hex-done _ _ _ _ (c .loop-test .left) _)
 

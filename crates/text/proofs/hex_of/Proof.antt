@@ -6,33 +6,26 @@ use borrow.Author.Needs.{needs}
 use Rattle.text.proofs.hex_of.Statement.{statement}
 use Rattle.text.proofs.hex_of.Tie as tie
 
--- src/lib.rt:66:8
 is-decimal-requires : tie.Need-is-decimal-requires
 is-decimal-requires c κs = search needs
 
--- src/lib.rt:67:16
 sub-result : tie.Need-sub-result
 sub-result c = omega (arith, decimal-range _ (sym (c .before .is-decimal .ensures) ∙ c .if1 .taken))
 
--- src/lib.rt:67:9
 returns : tie.Need-returns
 unfolding hexOf
 returns c = (rw (← c .before .is-decimal .ensures, c .if1 .taken), omega (arith, decimal-range _ (sym (c .before .is-decimal .ensures) ∙ c .if1 .taken)))
 
--- src/lib.rt:69:8
 is-letter-requires : tie.Need-is-letter-requires
 is-letter-requires c κs = search needs
 
--- src/lib.rt:70:16
 sub-result-2 : tie.Need-sub-result-2
 sub-result-2 c = omega (arith, letter-range _ (sym (c .before .is-letter .ensures) ∙ c .if2 .taken))
 
--- src/lib.rt:70:9
 returns-2 : tie.Need-returns-2
 unfolding hexOf
 returns-2 c = (rw (← c .before .before .before .is-decimal .ensures, c .before .before .if1 .left, ← c .before .is-letter .ensures, c .if2 .taken), omega (arith, letter-range _ (sym (c .before .is-letter .ensures) ∙ c .if2 .taken)))
 
--- src/lib.rt:63:1
 returns-3 : tie.Need-returns-3
 unfolding hexOf
 returns-3 c = (rw (← c .before .before .before .is-decimal .ensures, c .before .before .if1 .left, ← c .before .is-letter .ensures, c .if2 .left), omega arith)

@@ -3,12 +3,10 @@ use Rattle.text.specs.Digits.{isDecimal}
 use Rattle.text.proofs.is_decimal.Statement.{statement}
 use Rattle.text.proofs.is_decimal.Tie as tie
 
--- src/lib.rt:42:1
 returns : tie.Need-returns
 unfolding isDecimal
 returns c = rw (le-leb _ _ (c .if1 .taken))
 
--- src/lib.rt:42:1
 returns-2 : tie.Need-returns-2
 unfolding isDecimal
 returns-2 c = rw (lt-leb _ _ (c .if1 .left))

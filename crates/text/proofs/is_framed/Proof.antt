@@ -5,38 +5,30 @@ use borrow.Author.Needs.{needs}
 use Rattle.text.proofs.is_framed.Statement.{statement}
 use Rattle.text.proofs.is_framed.Tie as tie
 
--- src/lib.rt:164:22
 add-byte-at : tie.Need-add-byte-at
 add-byte-at c = search needs
 
--- src/lib.rt:164:8
 byte-at-requires : tie.Need-byte-at-requires
 byte-at-requires c κs = search needs
 
--- src/lib.rt:165:9
 returns : tie.Need-returns
 unfolding framed
 returns c = simp (ne-eqb _ 61 (λ q. c .if1 .taken (c .before .byte-at .ensures ∙ q)))
 
--- src/lib.rt:167:22
 add-byte-at-2 : tie.Need-add-byte-at-2
 add-byte-at-2 c = search needs
 
--- src/lib.rt:167:8
 byte-at-requires-2 : tie.Need-byte-at-requires-2
 byte-at-requires-2 c κs = search needs
 
--- src/lib.rt:168:9
 returns-2 : tie.Need-returns-2
 unfolding framed
 returns-2 c = simp (eq-eqb _ 61 (sym (c .before .before .before .byte-at .ensures) ∙ c .before .before .if1 .left), ne-eqb _ 10 (λ q. c .if2 .taken (c .before .byte-at2 .ensures ∙ q)))
 
--- src/lib.rt:171:9
 returns-3 : tie.Need-returns-3
 unfolding framed
 returns-3 c = simp (eq-eqb _ 61 (sym (c .before .before .before .before .byte-at .ensures) ∙ c .before .before .before .if1 .left), eq-eqb _ 10 (sym (c .before .before .byte-at2 .ensures) ∙ c .before .if2 .left), lt-leb _ _ (c .if3 .taken))
 
--- src/lib.rt:160:1
 returns-4 : tie.Need-returns-4
 unfolding framed
 returns-4 c = simp (eq-eqb _ 61 (sym (c .before .before .before .before .byte-at .ensures) ∙ c .before .before .before .if1 .left), eq-eqb _ 10 (sym (c .before .before .byte-at2 .ensures) ∙ c .before .if2 .left), le-leb _ _ (c .if3 .left))

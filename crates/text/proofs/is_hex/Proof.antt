@@ -3,20 +3,16 @@ use borrow.Author.Needs.{needs}
 use Rattle.text.proofs.is_hex.Statement.{statement}
 use Rattle.text.proofs.is_hex.Tie as tie
 
--- src/lib.rt:59:8
 is-decimal-requires : tie.Need-is-decimal-requires
 is-decimal-requires c κs = search needs
 
--- src/lib.rt:59:38
 is-letter-requires : tie.Need-is-letter-requires
 is-letter-requires c κs = search needs
 
--- src/lib.rt:56:1
 returns : tie.Need-returns
 unfolding isHex
 returns c = rw (← c .before .is-decimal .ensures, c .if1 .taken)
 
--- src/lib.rt:56:1
 returns-2 : tie.Need-returns-2
 unfolding isHex
 returns-2 c = rw (← c .before .before .is-decimal .ensures, c .before .if1 .left) (c .is-letter .ensures)

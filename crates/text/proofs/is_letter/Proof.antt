@@ -3,12 +3,10 @@ use Rattle.text.specs.Digits.{isLetter}
 use Rattle.text.proofs.is_letter.Statement.{statement}
 use Rattle.text.proofs.is_letter.Tie as tie
 
--- src/lib.rt:49:1
 returns : tie.Need-returns
 unfolding isLetter
 returns c = rw (le-leb _ _ (c .if1 .taken))
 
--- src/lib.rt:49:1
 returns-2 : tie.Need-returns-2
 unfolding isLetter
 returns-2 c = rw (lt-leb _ _ (c .if1 .left))

@@ -6,28 +6,22 @@ use borrow.Author.Needs.{needs}
 use Rattle.text.proofs.put_change.Statement.{statement}
 use Rattle.text.proofs.put_change.Tie as tie
 
--- src/lib.rt:522:9
 returns : tie.Need-returns
 unfolding changeText
 returns c = (rw (eq-eqb _ _ (c .if1 .taken)) (wrote-none _ _), omega arith)
 
--- src/lib.rt:524:9
 put-number-requires : tie.Need-put-number-requires
 put-number-requires c κs = search needs
 
--- src/lib.rt:525:27
 slice-aggregate-put-line : tie.Need-slice-aggregate-put-line
 slice-aggregate-put-line c = search needs
 
--- src/lib.rt:525:5
 put-line-requires : tie.Need-put-line-requires
 put-line-requires c κs = omega (arith, c .before .before .before .before .put-number .ensures .1)
 
--- src/lib.rt:517:1
 same-length : tie.Need-same-length
 same-length c = search needs
 
--- src/lib.rt:517:1
 returns-2 : tie.Need-returns-2
 unfolding changeText
 returns-2 c = (rw (ne-eqb _ _ (c .before .before .before .before .before .before .before .before .before .if1 .left)) (then (c .before .before .before .before .before .before .before .put-number .ensures .0) (c .before .before .put-line .ensures .0)), omega (arith, c .before .before .before .before .before .before .before .put-number .ensures .1, c .before .before .put-line .ensures .1))

@@ -16,47 +16,36 @@ Inv-loop out₀ at before after n to₀ a₀ out to a = (a ≤ n) × (length out
 abbrev μ-loop : tie.MeasureT-loop
 μ-loop out₀ at before after n to₀ a₀ out to a = n - a
 
--- src/lib.rt:535:5
 loop-holds : tie.Need-loop-holds Inv-loop μ-loop
 loop-holds c = (omega arith, refl, omega arith, λ m q w. rw sub-zero at w)
 
--- src/lib.rt:536:44
 mul-put-change : tie.Need-mul-put-change Inv-loop μ-loop
 mul-put-change c = search needs
 
--- src/lib.rt:536:44
 shared-slice-read-put-change : tie.Need-shared-slice-read-put-change Inv-loop μ-loop
 shared-slice-read-put-change c = search needs
 
--- src/lib.rt:536:55
 mul-put-change-2 : tie.Need-mul-put-change-2 Inv-loop μ-loop
 mul-put-change-2 c = search needs
 
--- src/lib.rt:536:55
 shared-slice-read-put-change-2 : tie.Need-shared-slice-read-put-change-2 Inv-loop μ-loop
 shared-slice-read-put-change-2 c = search needs
 
--- src/lib.rt:536:9
 put-change-requires : tie.Need-put-change-requires Inv-loop μ-loop
 put-change-requires c κs = omega arith
 
--- src/lib.rt:537:9
 add-a : tie.Need-add-a Inv-loop μ-loop
 add-a c = search needs
 
--- src/lib.rt:535:5
 loop-less : tie.Need-loop-less Inv-loop μ-loop
 loop-less c = omega arith
 
--- src/lib.rt:535:5
 loop-again : tie.Need-loop-again Inv-loop μ-loop
 loop-again c = (omega arith, c .before .before .put-change .kept .0 ∙ c .before .before .before .before .before .before .before .loop .inv .1, omega (arith, c .before .before .put-change .ensures .1), λ m q w. c .before .before .before .before .before .before .before .loop .inv .3 m q (wrote-as (words-next _ _ _ _ (c .before .before .before .before .before .before .loop-test .taken)) (then (c .before .before .put-change .ensures .0) w)))
 
--- src/lib.rt:529:1
 same-length : tie.Need-same-length Inv-loop μ-loop
 same-length c = c .before .loop .inv .1
 
--- src/lib.rt:529:1
 returns : tie.Need-returns Inv-loop μ-loop
 returns c = c .before .loop .inv .3 _ _ (wrote-as (words-done _ _ _ _ (c .loop-test .left)) (wrote-none _ _))
 

@@ -5,43 +5,33 @@ use borrow.Author.Needs.{needs}
 use Rattle.text.proofs.put_control.Statement.{statement}
 use Rattle.text.proofs.put_control.Tie as tie
 
--- src/lib.rt:432:36
 slice-aggregate-put-line : tie.Need-slice-aggregate-put-line
 slice-aggregate-put-line c = search needs
 
--- src/lib.rt:432:9
 put-line-requires : tie.Need-put-line-requires
 put-line-requires c κs = search needs
 
--- src/lib.rt:433:39
 slice-aggregate-put-line-2 : tie.Need-slice-aggregate-put-line-2
 slice-aggregate-put-line-2 c = search needs
 
--- src/lib.rt:433:9
 put-line-requires-2 : tie.Need-put-line-requires-2
 put-line-requires-2 c κs = search needs
 
--- src/lib.rt:434:39
 slice-aggregate-put-line-3 : tie.Need-slice-aggregate-put-line-3
 slice-aggregate-put-line-3 c = search needs
 
--- src/lib.rt:434:9
 put-line-requires-3 : tie.Need-put-line-requires-3
 put-line-requires-3 c κs = search needs
 
--- src/lib.rt:435:27
 slice-aggregate-put-line-4 : tie.Need-slice-aggregate-put-line-4
 slice-aggregate-put-line-4 c = search needs
 
--- src/lib.rt:435:5
 put-line-requires-4 : tie.Need-put-line-requires-4
 put-line-requires-4 c κs = search needs
 
--- src/lib.rt:428:1
 same-length : tie.Need-same-length
 same-length c = search needs
 
--- src/lib.rt:428:1
 returns : tie.Need-returns
 unfolding controlLines
 returns c = (then (then (then (c .before .before .before .before .before .before .before .before .before .before .before .before .before .before .before .before .before .put-line .ensures .0) (c .before .before .before .before .before .before .before .before .before .before .before .before .put-line2 .ensures .0)) (c .before .before .before .before .before .before .before .put-line3 .ensures .0)) (c .before .before .put-line4 .ensures .0), omega (arith, c .before .before .before .before .before .before .before .before .before .before .before .before .before .before .before .before .before .put-line .ensures .1, c .before .before .before .before .before .before .before .before .before .before .before .before .put-line2 .ensures .1, c .before .before .before .before .before .before .before .put-line3 .ensures .1, c .before .before .put-line4 .ensures .1))

@@ -16,47 +16,36 @@ Inv-loop out₀ at n base k i₀ rest₀ out i rest = (i ≤ k) × (length out �
 abbrev μ-loop : tie.MeasureT-loop
 μ-loop out₀ at n base k i₀ rest₀ out i rest = i
 
--- src/lib.rt:344:5
 loop-holds : tie.Need-loop-holds Inv-loop μ-loop
 loop-holds c = (omega arith, refl, refl)
 
--- src/lib.rt:345:9
 sub-i : tie.Need-sub-i Inv-loop μ-loop
 sub-i c = omega arith
 
--- src/lib.rt:346:23
 add-put-byte : tie.Need-add-put-byte Inv-loop μ-loop
 add-put-byte c = omega arith
 
--- src/lib.rt:346:37
 rem-glyph : tie.Need-rem-glyph Inv-loop μ-loop
 rem-glyph c = omega arith
 
--- src/lib.rt:346:31
 glyph-requires : tie.Need-glyph-requires Inv-loop μ-loop
 glyph-requires c κs = lt-of-lt-of-le (mod-lt _ (c .before .before .before .before .pre .2)) (c .before .before .before .before .pre .3)
 
--- src/lib.rt:346:9
 put-byte-requires : tie.Need-put-byte-requires Inv-loop μ-loop
 put-byte-requires c κs = search needs
 
--- src/lib.rt:347:9
 div-rest : tie.Need-div-rest Inv-loop μ-loop
 div-rest c = omega arith
 
--- src/lib.rt:344:5
 loop-less : tie.Need-loop-less Inv-loop μ-loop
 loop-less c = omega arith
 
--- src/lib.rt:344:5
 loop-again : tie.Need-loop-again Inv-loop μ-loop
 loop-again c = (omega arith, c .before .before .put-byte .kept .0 ∙ c .before .before .before .before .before .before .loop .inv .1, c .before .before .before .before .before .before .loop .inv .2 ∙ digits-next _ _ _ _ _ (c .before .before .before .before .before .loop-test .taken) ∙ simp (← c .before .before .before .glyph .ensures, c .before .before .put-byte .ensures))
 
--- src/lib.rt:338:1
 same-length : tie.Need-same-length Inv-loop μ-loop
 same-length c = c .before .loop .inv .1
 
--- src/lib.rt:338:1
 returns : tie.Need-returns Inv-loop μ-loop
 returns c = sym (c .before .loop .inv .2 ∙ digits-done _ _ _ _ _ (c .loop-test .left))
 

@@ -4,27 +4,21 @@ use borrow.Author.Needs.{needs}
 use Rattle.text.proofs.put_eight.Statement.{statement}
 use Rattle.text.proofs.put_eight.Tie as tie
 
--- src/lib.rt:410:9
 put-text-requires : tie.Need-put-text-requires
 put-text-requires c κs = search needs
 
--- src/lib.rt:411:9
 put-list-requires : tie.Need-put-list-requires
 put-list-requires c κs = search needs
 
--- src/lib.rt:412:24
 slice-aggregate-put-text : tie.Need-slice-aggregate-put-text
 slice-aggregate-put-text c = search needs
 
--- src/lib.rt:412:5
 put-text-requires-2 : tie.Need-put-text-requires-2
 put-text-requires-2 c κs = search needs
 
--- src/lib.rt:406:1
 same-length : tie.Need-same-length
 same-length c = search needs
 
--- src/lib.rt:406:1
 returns : tie.Need-returns
 returns c = (then (then (c .before .before .before .before .before .before .before .before .before .before .before .put-text .ensures .0) (c .before .before .before .before .before .before .before .put-list .ensures .0)) (c .before .before .put-text2 .ensures .0), omega (arith, c .before .before .before .before .before .before .before .before .before .before .before .put-text .ensures .1, c .before .before .before .before .before .before .before .put-list .ensures .1, c .before .before .put-text2 .ensures .1))
 

@@ -4,27 +4,21 @@ use borrow.Author.Needs.{needs}
 use Rattle.text.proofs.put_line.Statement.{statement}
 use Rattle.text.proofs.put_line.Tie as tie
 
--- src/lib.rt:385:9
 put-text-requires : tie.Need-put-text-requires
 put-text-requires c κs = search needs
 
--- src/lib.rt:386:9
 put-number-requires : tie.Need-put-number-requires
 put-number-requires c κs = search needs
 
--- src/lib.rt:387:24
 slice-aggregate-put-text : tie.Need-slice-aggregate-put-text
 slice-aggregate-put-text c = search needs
 
--- src/lib.rt:387:5
 put-text-requires-2 : tie.Need-put-text-requires-2
 put-text-requires-2 c κs = search needs
 
--- src/lib.rt:381:1
 same-length : tie.Need-same-length
 same-length c = search needs
 
--- src/lib.rt:381:1
 returns : tie.Need-returns
 returns c = (then (then (c .before .before .before .before .before .before .before .before .before .before .before .put-text .ensures .0) (c .before .before .before .before .before .before .before .put-number .ensures .0)) (c .before .before .put-text2 .ensures .0), omega (arith, c .before .before .before .before .before .before .before .before .before .before .before .put-text .ensures .1, c .before .before .before .before .before .before .before .put-number .ensures .1, c .before .before .put-text2 .ensures .0 .place))
 

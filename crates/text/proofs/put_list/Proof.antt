@@ -16,55 +16,42 @@ Inv-loop out₀ at ns least to₀ i₀ out to i = (1 ≤ i) × (i ≤ length ns)
 abbrev μ-loop : tie.MeasureT-loop
 μ-loop out₀ at ns least to₀ i₀ out to i = length ns - i
 
--- src/lib.rt:395:38
 shared-slice-read-put-number : tie.Need-shared-slice-read-put-number Inv-loop μ-loop
 shared-slice-read-put-number c = search needs
 
--- src/lib.rt:395:9
 put-number-requires : tie.Need-put-number-requires Inv-loop μ-loop
 put-number-requires c κs = search needs
 
--- src/lib.rt:397:5
 loop-holds : tie.Need-loop-holds Inv-loop μ-loop
 loop-holds c = (omega arith, omega arith, refl, omega arith, λ m q w. w)
 
--- src/lib.rt:398:9
 put-byte-requires : tie.Need-put-byte-requires Inv-loop μ-loop
 put-byte-requires c κs = search needs
 
--- src/lib.rt:399:30
 add-put-number : tie.Need-add-put-number Inv-loop μ-loop
 add-put-number c = omega arith
 
--- src/lib.rt:399:38
 mul-put-number : tie.Need-mul-put-number Inv-loop μ-loop
 mul-put-number c = search needs
 
--- src/lib.rt:399:38
 shared-slice-read-put-number-2 : tie.Need-shared-slice-read-put-number-2 Inv-loop μ-loop
 shared-slice-read-put-number-2 c = search needs
 
--- src/lib.rt:399:9
 put-number-requires-2 : tie.Need-put-number-requires-2 Inv-loop μ-loop
 put-number-requires-2 c κs = search needs
 
--- src/lib.rt:400:9
 add-i : tie.Need-add-i Inv-loop μ-loop
 add-i c = omega arith
 
--- src/lib.rt:397:5
 loop-less : tie.Need-loop-less Inv-loop μ-loop
 loop-less c = omega arith
 
--- src/lib.rt:397:5
 loop-again : tie.Need-loop-again Inv-loop μ-loop
 loop-again c = (omega arith, omega arith, c .before .before .put-number2 .kept .0 ∙ c .before .before .before .before .before .before .before .put-byte .kept .0 ∙ c .before .before .before .before .before .before .before .before .before .before .loop .inv .2, omega (arith, c .before .before .put-number2 .ensures .1), λ m q w. c .before .before .before .before .before .before .before .before .before .before .loop .inv .4 m q (wrote-as (commas-next _ _ _ (c .before .before .before .before .before .before .before .before .before .loop-test .taken)) (then (then (wrote-byte (c .before .before .before .before .before .before .before .put-byte .ensures)) (c .before .before .put-number2 .ensures .0)) w)))
 
--- src/lib.rt:391:1
 same-length : tie.Need-same-length Inv-loop μ-loop
 same-length c = c .before .loop .inv .2 ∙ c .before .before .before .before .put-number .kept .0
 
--- src/lib.rt:391:1
 returns : tie.Need-returns Inv-loop μ-loop
 returns c = let e : c .before .loop .i ≡ length (now (c .before .before .before .before .before .before .before .before .before .args .ns)) = omega arith in let some : 0 < length (now (c .before .before .before .before .before .before .before .before .before .args .ns)) = omega arith in (wrote-as (commas-first _ _ some) (then (c .before .before .before .before .put-number .ensures .0) (c .before .loop .inv .4 _ _ (wrote-as (commas-done _ _ _ e) (wrote-none _ _)))), omega (arith, c .before .before .before .before .put-number .ensures .1, c .before .loop .inv .3))
 

@@ -4,39 +4,30 @@ use borrow.Author.Needs.{needs}
 use Rattle.text.proofs.put_number.Statement.{statement}
 use Rattle.text.proofs.put_number.Tie as tie
 
--- src/lib.rt:370:9
 places-requires : tie.Need-places-requires
 places-requires c κs = search needs
 
--- src/lib.rt:372:9
 put-digits-requires : tie.Need-put-digits-requires
 put-digits-requires c κs = search needs
 
--- src/lib.rt:373:9
 add-result : tie.Need-add-result
 add-result c = search needs
 
--- src/lib.rt:375:9
 put-digits-requires-2 : tie.Need-put-digits-requires-2
 put-digits-requires-2 c κs = search needs
 
--- src/lib.rt:376:9
 add-result-2 : tie.Need-add-result-2
 add-result-2 c = search needs
 
--- src/lib.rt:366:1
 same-length : tie.Need-same-length
 same-length c = search needs
 
--- src/lib.rt:366:1
 returns : tie.Need-returns
 returns c = let a = c .before .before .before .before .before .before .before .args in (wrote-number (a .base) (a .least) (a .n) (width-least _ _ _ _ (c .before .before .before .before .before .places .ensures .0) (c .before .before .before .before .if1 .taken)) (c .before .before .put-digits .ensures), omega arith)
 
--- src/lib.rt:366:1
 same-length-2 : tie.Need-same-length-2
 same-length-2 c = search needs
 
--- src/lib.rt:366:1
 returns-2 : tie.Need-returns-2
 returns-2 c = let a = c .before .before .before .before .before .before .before .args in (wrote-number (a .base) (a .least) (a .n) (width-own _ _ _ _ (c .before .before .before .before .before .places .ensures .0) (c .before .before .before .before .if1 .left)) (c .before .before .put-digits2 .ensures), omega arith)
 

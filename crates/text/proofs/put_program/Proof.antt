@@ -5,27 +5,21 @@ use borrow.Author.Needs.{needs}
 use Rattle.text.proofs.put_program.Statement.{statement}
 use Rattle.text.proofs.put_program.Tie as tie
 
--- src/lib.rt:454:36
 slice-aggregate-put-line : tie.Need-slice-aggregate-put-line
 slice-aggregate-put-line c = search needs
 
--- src/lib.rt:454:9
 put-line-requires : tie.Need-put-line-requires
 put-line-requires c κs = search needs
 
--- src/lib.rt:455:27
 slice-aggregate-put-line-2 : tie.Need-slice-aggregate-put-line-2
 slice-aggregate-put-line-2 c = search needs
 
--- src/lib.rt:455:5
 put-line-requires-2 : tie.Need-put-line-requires-2
 put-line-requires-2 c κs = search needs
 
--- src/lib.rt:450:1
 same-length : tie.Need-same-length
 same-length c = search needs
 
--- src/lib.rt:450:1
 returns : tie.Need-returns
 unfolding programLines
 returns c = (then (c .before .before .before .before .before .before .before .put-line .ensures .0) (c .before .before .put-line2 .ensures .0), omega (arith, c .before .before .before .before .before .before .before .put-line .ensures .1, c .before .before .put-line2 .ensures .1))

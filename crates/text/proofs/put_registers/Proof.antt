@@ -5,35 +5,27 @@ use borrow.Author.Needs.{needs}
 use Rattle.text.proofs.put_registers.Statement.{statement}
 use Rattle.text.proofs.put_registers.Tie as tie
 
--- src/lib.rt:465:37
 slice-aggregate-put-eight : tie.Need-slice-aggregate-put-eight
 slice-aggregate-put-eight c = search needs
 
--- src/lib.rt:465:44
 slice-aggregate-put-eight-2 : tie.Need-slice-aggregate-put-eight-2
 slice-aggregate-put-eight-2 c = search needs
 
--- src/lib.rt:465:9
 put-eight-requires : tie.Need-put-eight-requires
 put-eight-requires c κs = search needs
 
--- src/lib.rt:466:28
 slice-aggregate-put-eight-3 : tie.Need-slice-aggregate-put-eight-3
 slice-aggregate-put-eight-3 c = search needs
 
--- src/lib.rt:466:35
 slice-aggregate-put-eight-4 : tie.Need-slice-aggregate-put-eight-4
 slice-aggregate-put-eight-4 c = search needs
 
--- src/lib.rt:466:5
 put-eight-requires-2 : tie.Need-put-eight-requires-2
 put-eight-requires-2 c κs = search needs
 
--- src/lib.rt:459:1
 same-length : tie.Need-same-length
 same-length c = search needs
 
--- src/lib.rt:459:1
 returns : tie.Need-returns
 unfolding registerLines
 returns c = (then (c .before .before .before .before .before .before .before .before .put-eight .ensures .0) (c .before .before .put-eight2 .ensures .0), omega (arith, c .before .before .before .before .before .before .before .before .put-eight .ensures .1, c .before .before .put-eight2 .ensures .1))

@@ -3,86 +3,66 @@ use borrow.Author.Needs.{needs}
 use Rattle.text.proofs.put_stop.Statement.{statement}
 use Rattle.text.proofs.put_stop.Tie as tie
 
--- src/lib.rt:420:37
 enum-told : tie.Need-enum-told
 enum-told c = search needs
 
--- src/lib.rt:420:45
 slice-aggregate-put-text : tie.Need-slice-aggregate-put-text
 slice-aggregate-put-text c = search needs
 
--- src/lib.rt:420:28
 put-text-requires : tie.Need-put-text-requires
 put-text-requires c κs = search needs
 
--- src/lib.rt:421:42
 enum-told-2 : tie.Need-enum-told-2
 enum-told-2 c = search needs
 
--- src/lib.rt:421:50
 slice-aggregate-put-text-2 : tie.Need-slice-aggregate-put-text-2
 slice-aggregate-put-text-2 c = search needs
 
--- src/lib.rt:421:33
 put-text-requires-2 : tie.Need-put-text-requires-2
 put-text-requires-2 c κs = search needs
 
--- src/lib.rt:422:40
 enum-told-3 : tie.Need-enum-told-3
 enum-told-3 c = search needs
 
--- src/lib.rt:422:48
 slice-aggregate-put-text-3 : tie.Need-slice-aggregate-put-text-3
 slice-aggregate-put-text-3 c = search needs
 
--- src/lib.rt:422:31
 put-text-requires-3 : tie.Need-put-text-requires-3
 put-text-requires-3 c κs = search needs
 
--- src/lib.rt:423:45
 enum-told-4 : tie.Need-enum-told-4
 enum-told-4 c = search needs
 
--- src/lib.rt:423:53
 slice-aggregate-put-text-4 : tie.Need-slice-aggregate-put-text-4
 slice-aggregate-put-text-4 c = search needs
 
--- src/lib.rt:423:36
 put-text-requires-4 : tie.Need-put-text-requires-4
 put-text-requires-4 c κs = search needs
 
--- src/lib.rt:416:1
 same-length : tie.Need-same-length
 same-length c = search needs
 
--- src/lib.rt:416:1
 returns : tie.Need-returns
 unfolding stopLine
 returns c = (rw (c .before .before .before .before .before .enum-told .given .1) (c .before .before .put-text .ensures .0), c .before .before .put-text .ensures .1)
 
--- src/lib.rt:416:1
 same-length-2 : tie.Need-same-length-2
 same-length-2 c = search needs
 
--- src/lib.rt:416:1
 returns-2 : tie.Need-returns-2
 unfolding stopLine
 returns-2 c = (rw (c .before .before .before .before .before .enum-told2 .given .1) (c .before .before .put-text2 .ensures .0), c .before .before .put-text2 .ensures .1)
 
--- src/lib.rt:416:1
 same-length-3 : tie.Need-same-length-3
 same-length-3 c = search needs
 
--- src/lib.rt:416:1
 returns-3 : tie.Need-returns-3
 unfolding stopLine
 returns-3 c = (rw (c .before .before .before .before .before .enum-told3 .given .1) (c .before .before .put-text3 .ensures .0), c .before .before .put-text3 .ensures .1)
 
--- src/lib.rt:416:1
 same-length-4 : tie.Need-same-length-4
 same-length-4 c = search needs
 
--- src/lib.rt:416:1
 returns-4 : tie.Need-returns-4
 unfolding stopLine
 returns-4 c = (rw (c .before .before .before .before .before .enum-told4 .given .1) (c .before .before .put-text4 .ensures .0), c .before .before .put-text4 .ensures .1)

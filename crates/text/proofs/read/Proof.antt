@@ -4,32 +4,25 @@ use borrow.Author.Needs.{needs}
 use Rattle.text.proofs.read.Statement.{statement}
 use Rattle.text.proofs.read.Tie as tie
 
--- src/lib.rt:295:11
 check-requires : tie.Need-check-requires
 check-requires c κs = search needs
 
--- src/lib.rt:296:27
 enum-known-steps : tie.Need-enum-known-steps
 enum-known-steps c = search needs
 
--- src/lib.rt:297:13
 store-words-requires : tie.Need-store-words-requires
 store-words-requires c κs = subst CheckedFits (c .before .before .steps .given .1) (c .before .before .before .before .check .ensures .1)
 
--- src/lib.rt:300:25
 enum-known-line : tie.Need-enum-known-line
 enum-known-line c = search needs
 
--- src/lib.rt:291:1
 same-length : tie.Need-same-length
 same-length c = search needs
 
--- src/lib.rt:291:1
 returns : tie.Need-returns
 unfolding sheetOf answerOf memoryOf loadedOf
 returns c = (rw (← c .before .before .before .before .before .before .before .check .ensures .0, c .before .before .before .before .before .steps .given .1), rw (← c .before .before .before .before .before .before .before .check .ensures .0, c .before .before .before .before .before .steps .given .1) (c .before .before .store-words .ensures))
 
--- src/lib.rt:291:1
 returns-2 : tie.Need-returns-2
 unfolding sheetOf answerOf memoryOf loadedOf
 returns-2 c = (rw (← c .before .before .before .check .ensures .0, c .before .line .given .1), rw (← c .before .before .before .check .ensures .0, c .before .line .given .1))

@@ -3,11 +3,9 @@ use borrow.Author.Tests.{lt-ltb, le-ltb}
 use Rattle.text.proofs.smaller_of.Statement.{statement}
 use Rattle.text.proofs.smaller_of.Tie as tie
 
--- src/lib.rt:482:1
 returns : tie.Need-returns
 returns c = (rw (lt-ltb _ _ (c .if1 .taken)), omega arith, omega arith)
 
--- src/lib.rt:482:1
 returns-2 : tie.Need-returns-2
 returns-2 c = (rw (le-ltb _ _ (c .if1 .left)), omega arith, omega arith)
 

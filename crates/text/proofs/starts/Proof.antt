@@ -16,39 +16,30 @@ Inv-loop text at name i₀ i = (i ≤ length name) × (startsAt text at name ≡
 abbrev μ-loop : tie.MeasureT-loop
 μ-loop text at name i₀ i = length name - i
 
--- src/lib.rt:81:5
 loop-holds : tie.Need-loop-holds Inv-loop μ-loop
 loop-holds c = (omega arith, simp add-zero)
 
--- src/lib.rt:82:26
 add-byte-at : tie.Need-add-byte-at Inv-loop μ-loop
 add-byte-at c = omega arith
 
--- src/lib.rt:82:12
 byte-at-requires : tie.Need-byte-at-requires Inv-loop μ-loop
 byte-at-requires c κs = search needs
 
--- src/lib.rt:82:37
 shared-slice-read-if1 : tie.Need-shared-slice-read-if1 Inv-loop μ-loop
 shared-slice-read-if1 c = omega arith
 
--- src/lib.rt:83:13
 returns : tie.Need-returns Inv-loop μ-loop
 returns c = sym (c .before .before .before .before .loop .inv .1 ∙ starts-not _ _ _ _ (c .before .before .before .loop-test .taken) (λ q. c .if1 .taken (c .before .before .byte-at .ensures ∙ q)))
 
--- src/lib.rt:85:9
 add-i : tie.Need-add-i Inv-loop μ-loop
 add-i c = omega arith
 
--- src/lib.rt:81:5
 loop-less : tie.Need-loop-less Inv-loop μ-loop
 loop-less c = omega arith
 
--- src/lib.rt:81:5
 loop-again : tie.Need-loop-again Inv-loop μ-loop
 loop-again c = (omega arith, c .before .before .before .before .loop .inv .1 ∙ starts-next _ _ _ _ (c .before .before .before .loop-test .taken) (sym (c .before .before .byte-at .ensures) ∙ c .if1 .left))
 
--- src/lib.rt:76:1
 returns-2 : tie.Need-returns-2 Inv-loop μ-loop
 returns-2 c = let e : c .before .loop .i ≡ length (now (c .before .before .before .before .args .name)) = omega arith in sym (c .before .loop .inv .1 ∙ starts-done _ _ _ _ e)
 

@@ -5,23 +5,18 @@ use borrow.Author.Needs.{needs}
 use Rattle.text.proofs.store.Statement.{statement}
 use Rattle.text.proofs.store.Tie as tie
 
--- src/lib.rt:270:9
 mul-mem : tie.Need-mul-mem
 mul-mem c = search needs
 
--- src/lib.rt:270:9
 slice-write-mem : tie.Need-slice-write-mem
 slice-write-mem c = search needs
 
--- src/lib.rt:265:1
 same-length : tie.Need-same-length
 same-length c = search needs
 
--- src/lib.rt:265:1
 returns : tie.Need-returns
 returns c = search needs
 
--- src/lib.rt:265:1
 returns-2 : tie.Need-returns-2
 returns-2 c = sym (set-out (now (c .before .args .mem)) (c .before .args .address) (c .before .args .word) (c .if1 .left))
 

@@ -14,47 +14,36 @@ Inv-loop text start count mem₀ left₀ at₀ mem left at = (left ≤ count) ×
 abbrev μ-loop : tie.MeasureT-loop
 μ-loop text start count mem₀ left₀ at₀ mem left at = left
 
--- src/lib.rt:281:5
 loop-holds : tie.Need-loop-holds Inv-loop μ-loop
 loop-holds c = (omega arith, refl, refl, refl)
 
--- src/lib.rt:282:13
 hex-number-requires : tie.Need-hex-number-requires Inv-loop μ-loop
 hex-number-requires c κs = search needs
 
--- src/lib.rt:283:37
 add-hex-number : tie.Need-add-hex-number Inv-loop μ-loop
 add-hex-number c = omega arith
 
--- src/lib.rt:283:13
 hex-number-requires-2 : tie.Need-hex-number-requires-2 Inv-loop μ-loop
 hex-number-requires-2 c κs = search needs
 
--- src/lib.rt:284:9
 store-requires : tie.Need-store-requires Inv-loop μ-loop
 store-requires c κs = search needs
 
--- src/lib.rt:285:9
 add-at : tie.Need-add-at Inv-loop μ-loop
 add-at c = omega arith
 
--- src/lib.rt:286:9
 sub-left : tie.Need-sub-left Inv-loop μ-loop
 sub-left c = omega arith
 
--- src/lib.rt:281:5
 loop-less : tie.Need-loop-less Inv-loop μ-loop
 loop-less c = omega arith
 
--- src/lib.rt:281:5
 loop-again : tie.Need-loop-again Inv-loop μ-loop
 loop-again c = (omega arith, omega arith, c .before .before .store .kept .0 ∙ c .before .before .before .before .before .before .before .loop .inv .2, c .before .before .before .before .before .before .before .loop .inv .3 ∙ stored-next _ _ _ _ (c .before .before .before .before .before .before .loop-test .taken) ∙ simp (← c .before .before .before .before .before .hex-number .ensures, ← c .before .before .before .before .hex-number2 .ensures, c .before .before .store .ensures))
 
--- src/lib.rt:275:1
 same-length : tie.Need-same-length Inv-loop μ-loop
 same-length c = c .before .loop .inv .2
 
--- src/lib.rt:275:1
 returns : tie.Need-returns Inv-loop μ-loop
 returns c = sym (c .before .loop .inv .3 ∙ stored-done _ _ _ _ (c .loop-test .left))
 
