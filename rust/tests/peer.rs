@@ -215,20 +215,25 @@ fn any_memory(draw: &mut Draw, words: usize) -> Vec<u64> {
     (0..words).map(|_| draw.next()).collect()
 }
 
+/// A processor, now and then one to be refused, in a memory of `least` words
+/// or some more.
+fn any_case(draw: &mut Draw, least: usize) -> Pair {
+    let words = least + draw.below(64) as usize;
+    let memory = any_memory(draw, words);
+    let processor = draw.bits(1);
+    let mut state = draw.state(processor);
+    if draw.below(16) == 0 {
+        draw.spoil(&mut state);
+    }
+    Pair::new(memory, vec![state])
+}
+
 #[test]
 fn steps_from_any_state() {
     let mut draw = Draw(1);
     let mut kinds = [0; 5];
     for _ in 0..4_000 {
-        let words = 4_096 + draw.below(64) as usize;
-        let memory = any_memory(&mut draw, words);
-        let processor = draw.bits(1);
-        let mut state = draw.state(processor);
-        if draw.below(16) == 0 {
-            draw.spoil(&mut state);
-        }
-        let mut pair = Pair::new(memory, vec![state]);
-        let kind = match pair.step() {
+        let kind = match any_case(&mut draw, 4_096).step() {
             Ok(Answer::Stepped) => 0,
             Ok(Answer::Exchanged(_)) => 1,
             Ok(Answer::NotHeld(_)) => 2,
@@ -245,18 +250,11 @@ fn runs_from_any_state() {
     let mut draw = Draw(2);
     let mut kinds = [0; 4];
     for _ in 0..3_000 {
-        let words = 4_095 + draw.below(64) as usize;
-        let memory = any_memory(&mut draw, words);
-        let processor = draw.bits(1);
-        let mut state = draw.state(processor);
-        if draw.below(16) == 0 {
-            draw.spoil(&mut state);
-        }
+        let mut pair = any_case(&mut draw, 4_095);
         let budget = match draw.below(16) {
             0 => 999_990 + draw.below(20),
             _ => draw.below(40),
         };
-        let mut pair = Pair::new(memory, vec![state]);
         let kind = match pair.run(budget) {
             Ok(Ending::Budget) => 0,
             Ok(Ending::NotHeld(_)) => 1,

@@ -205,7 +205,7 @@ pub fn out_of_range(f: Reach, k: &[u64; 5], q: ParcelAddr) -> Work
 }
 
 // How many words of a field lie in a memory.
-pub fn words_in(base: u64, limit: u64, length: u64) -> u64
+fn words_in(base: u64, limit: u64, length: u64) -> u64
     requires { ⌜ (base < 2 ^ 17) × (limit < 2 ^ 17) ⌝ }
     ensures { λ r. ⌜ r ≡ extent base limit length ⌝ }
 {

@@ -15,7 +15,7 @@ use machine::Reach;
 use machine::Work;
 
 // 170 to 177, by h.
-pub fn from_170(
+fn from_170(
     a: &[u64; 8],
     v: &mut [u64; 512],
     k: &mut [u64; 5],
@@ -43,7 +43,7 @@ pub fn from_170(
 }
 
 // 100 to 177, by g.
-pub fn from_100(
+fn from_100(
     a: &mut [u64; 8],
     s: &mut [u64; 8],
     v: &mut [u64; 512],
@@ -73,7 +73,7 @@ pub fn from_100(
 }
 
 // 060 to 077.
-pub fn from_060(
+fn from_060(
     a: &mut [u64; 8],
     s: &mut [u64; 8],
     t: &mut [u64; 64],
@@ -114,7 +114,7 @@ pub fn from_060(
 }
 
 // 040 to 057.
-pub fn from_040(
+fn from_040(
     a: &mut [u64; 8],
     s: &mut [u64; 8],
     t: &mut [u64; 64],
@@ -155,7 +155,7 @@ pub fn from_040(
 }
 
 // 020 to 037.
-pub fn from_020(
+fn from_020(
     a: &mut [u64; 8],
     s: &mut [u64; 8],
     b: &mut [u64; 64],
@@ -197,7 +197,7 @@ pub fn from_020(
 }
 
 // 000 to 017.
-pub fn from_000(
+fn from_000(
     a: &mut [u64; 8],
     s: &mut [u64; 8],
     b: &mut [u64; 64],

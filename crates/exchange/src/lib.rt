@@ -26,7 +26,7 @@ use access::XA;
 use machine::ParcelAddr;
 
 // The words of package x.
-pub fn package(mem: &[u64], x: u64) -> [u64; 16]
+fn package(mem: &[u64], x: u64) -> [u64; 16]
     requires { ⌜ (x < 256) × (4096 ≤ length (now mem)) ⌝ }
     ensures { λ r. ⌜ r ≡ eight (λ n. wordOf (now (mem .entry)) x n) ++ eight (λ n. wordOf (now (mem .entry)) x (8 + n)) ⌝ }
 {
@@ -85,7 +85,7 @@ fn saved_words(
 }
 
 // Saves a processor in package x.
-pub fn save(
+fn save(
     a: &[u64; 8],
     s: &[u64; 8],
     k: &[u64; 5],
@@ -152,7 +152,7 @@ fn load_frame(q: &mut [u64; 10], w: &[u64; 16])
 }
 
 // Loads a package's words. The result is P.
-pub fn load(
+fn load(
     a: &mut [u64; 8],
     s: &mut [u64; 8],
     k: &mut [u64; 5],

@@ -37,21 +37,21 @@ abbrev pub afterStart : List ℕ → StartCalled → Left
 afterStart words c = leaves (c .refused) (words ∷ []) (wordsOf (c .state) ∷ [])
 
 -- a step: the kind and the value of its answer
-abbrev pub afterStep : List ℕ → List ℕ → Called → Left
-afterStep words answer c =
+abbrev pub afterStep : List ℕ → List ℕ → List ℕ → Called → Left
+afterStep words mem answer c =
     let n = saidNumbers (c .said) in
-    leaves (refused n) (words ∷ c .mem ∷ answer ∷ []) (wordsOf (c .state) ∷ c .mem ∷ (kind n ∷ value n ∷ []) ∷ [])
+    leaves (refused n) (words ∷ mem ∷ answer ∷ []) (wordsOf (c .state) ∷ c .mem ∷ (kind n ∷ value n ∷ []) ∷ [])
 
 -- a run: the kind and the value of its ending, and the steps
-abbrev pub afterRun : List ℕ → List ℕ → RunCalled → Left
-afterRun words report c =
+abbrev pub afterRun : List ℕ → List ℕ → List ℕ → RunCalled → Left
+afterRun words mem report c =
     let n = endingNumbers (c .ending) in
-    leaves (refused n) (words ∷ c .mem ∷ report ∷ []) (wordsOf (c .state) ∷ c .mem ∷ (kind n ∷ value n ∷ c .steps ∷ []) ∷ [])
+    leaves (refused n) (words ∷ mem ∷ report ∷ []) (wordsOf (c .state) ∷ c .mem ∷ (kind n ∷ value n ∷ c .steps ∷ []) ∷ [])
 
 -- a pair run: the same of its last answer
-abbrev pub afterPair : List ℕ → List ℕ → List ℕ → PairCalled → Left
-afterPair first second report c =
+abbrev pub afterPair : List ℕ → List ℕ → List ℕ → List ℕ → PairCalled → Left
+afterPair first second mem report c =
     let n = lastNumbers (c .last) in
     leaves (refused n)
-    (first ∷ second ∷ c .mem ∷ report ∷ [])
+    (first ∷ second ∷ mem ∷ report ∷ [])
     (wordsOf (c .first) ∷ wordsOf (c .second) ∷ c .mem ∷ (kind n ∷ value n ∷ c .steps ∷ []) ∷ [])

@@ -226,7 +226,7 @@ pub extern "C" fn pulxarrid_step(
     answer: &mut [u64; 2],
 ) -> u64
     ensures { λ r. ⌜ left r (now (state .exit) ∷ now (mem .exit) ∷ now (answer .exit) ∷ [])
-        ≡ afterStep (now (state .entry)) (now (answer .entry)) (stepCall (stateOf (now (state .entry))) (now (mem .entry))) ⌝ }
+        ≡ afterStep (now (state .entry)) (now (mem .entry)) (now (answer .entry)) (stepCall (stateOf (now (state .entry))) (now (mem .entry))) ⌝ }
 {
     let took = xmp::step(state_of(state), mem);
     let said = took.said;
@@ -249,7 +249,7 @@ pub extern "C" fn pulxarrid_run(
     report: &mut [u64; 3],
 ) -> u64
     ensures { λ r. ⌜ left r (now (state .exit) ∷ now (mem .exit) ∷ now (report .exit) ∷ [])
-        ≡ afterRun (now (state .entry)) (now (report .entry)) (runCall (stateOf (now (state .entry))) (now (mem .entry)) budget) ⌝ }
+        ≡ afterRun (now (state .entry)) (now (mem .entry)) (now (report .entry)) (runCall (stateOf (now (state .entry))) (now (mem .entry)) budget) ⌝ }
 {
     let ran = xmp::run(state_of(state), mem, budget);
     let ending = ran.ending;
@@ -273,7 +273,7 @@ pub extern "C" fn pulxarrid_pair_run(
     report: &mut [u64; 3],
 ) -> u64
     ensures { λ r. ⌜ left r (now (first .exit) ∷ now (second .exit) ∷ now (mem .exit) ∷ now (report .exit) ∷ [])
-        ≡ afterPair (now (first .entry)) (now (second .entry)) (now (report .entry))
+        ≡ afterPair (now (first .entry)) (now (second .entry)) (now (mem .entry)) (now (report .entry))
         (pairCall (stateOf (now (first .entry))) (stateOf (now (second .entry))) (now (mem .entry)) (now (schedule .entry))) ⌝ }
 {
     let x = state_of(first);

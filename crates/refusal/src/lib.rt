@@ -8,7 +8,7 @@ use machine::ParcelAddr;
 use machine::State;
 
 // Whether each number is below n.
-pub fn all_below(numbers: &[u64], n: u64) -> bool
+fn all_below(numbers: &[u64], n: u64) -> bool
     ensures { λ r. ⌜ r ≡ below n (now (numbers .entry)) ⌝ }
 {
     let mut e: usize = 0;
@@ -22,7 +22,7 @@ pub fn all_below(numbers: &[u64], n: u64) -> bool
 }
 
 // The same of bytes.
-pub fn bytes_below(bytes: &[u8], n: u8) -> bool
+fn bytes_below(bytes: &[u8], n: u8) -> bool
     ensures { λ r. ⌜ r ≡ below n (now (bytes .entry)) ⌝ }
 {
     let mut e: usize = 0;
@@ -36,14 +36,14 @@ pub fn bytes_below(bytes: &[u8], n: u8) -> bool
 }
 
 // Whether a memory has 4,096 to 4,194,304 words.
-pub fn memory_fits(words: usize) -> bool
+fn memory_fits(words: usize) -> bool
     ensures { λ r. ⌜ r ≡ memoryFits words ⌝ }
 {
     4096 <= words && words <= 4194304
 }
 
 // Whether each number fits its register: of the files only A and B can hold one that does not, so only these are handed over.
-pub fn registers_fit(a: [u64; 8], b: [u64; 64], xa: u64, vl: u64, ior: u64, bdm: u64) -> bool
+fn registers_fit(a: [u64; 8], b: [u64; 64], xa: u64, vl: u64, ior: u64, bdm: u64) -> bool
     ensures { λ y. ⌜ ((s t v : List ℕ) (vm : ℕ) → y ≡ registersFit (record { a = a; s = s; b = b; t = t; v = v; xa = xa; vl = vl; vm = vm; ior = ior; bdm = bdm })) ⌝ }
 {
     let narrow = [xa];
@@ -66,7 +66,7 @@ pub fn registers_fit(a: [u64; 8], b: [u64; 64], xa: u64, vl: u64, ior: u64, bdm:
     vl <= 64
 }
 
-pub fn frame_fits(fr: Frame) -> bool
+fn frame_fits(fr: Frame) -> bool
     ensures { λ y. ⌜ y ≡ frameFits fr ⌝ }
 {
     let fields = [fr.iba, fr.ila, fr.dba, fr.dla];
@@ -82,7 +82,7 @@ pub fn frame_fits(fr: Frame) -> bool
 }
 
 // The same of a whole processor.
-pub fn numbers_fit(
+fn numbers_fit(
     p: ParcelAddr,
     a: [u64; 8],
     b: [u64; 64],

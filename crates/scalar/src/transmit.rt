@@ -23,7 +23,7 @@ pub fn from_a(a: &[u64; 8], s: &mut [u64; 8], p: ParcelAddr, x: u64) -> Work
 }
 
 // The status word: PS, FPS, IFP, IOR, BDM, the processor and the cluster; the highest bit is set where the cluster is not 0.
-pub fn status(k: &[u64; 5], q: &[u64; 10]) -> u64
+fn status(k: &[u64; 5], q: &[u64; 10]) -> u64
     requires { ⌜ FrameOk (frame (now q)) ⌝ }
     requires { ⌜ KOk (now k) ⌝ }
     ensures { λ r. ⌜ ((a s b t v : List ℕ) → r ≡ statusOf (frame (now (q .entry))) (registers a s b t v (now (k .entry)))) ⌝ }

@@ -35,7 +35,7 @@ pub struct Came {
 }
 
 // Steps until the budget is spent or one does more than step. The fields stay as they are all this time.
-pub fn take_burst(
+fn take_burst(
     a: &mut [u64; 8],
     s: &mut [u64; 8],
     b: &mut [u64; 64],
@@ -83,14 +83,14 @@ pub struct Finished {
 }
 
 // The flag of an exit: set in user mode only.
-pub fn in_user_mode(q: &[u64; 10], flag: u64) -> u64
+fn in_user_mode(q: &[u64; 10], flag: u64) -> u64
     ensures { λ r. ⌜ r ≡ inUserMode (frame (now (q .entry))) flag ⌝ }
 {
     if q[MM] == 0 { flag } else { 0 }
 }
 
 // The exchange with its flags, P saved being past.
-pub fn leave(
+fn leave(
     a: &mut [u64; 8],
     s: &mut [u64; 8],
     k: &mut [u64; 5],
@@ -112,7 +112,7 @@ pub fn leave(
 }
 
 // The rest of a step whose instruction stood at p: the exchange, where there is one.
-pub fn complete(
+fn complete(
     a: &mut [u64; 8],
     s: &mut [u64; 8],
     k: &mut [u64; 5],
@@ -163,7 +163,7 @@ pub struct Went {
 }
 
 // The end of a turn whose burst came so far: its next step is finished, and an exchange is counted.
-pub fn end_turn(
+fn end_turn(
     a: &mut [u64; 8],
     s: &mut [u64; 8],
     k: &mut [u64; 5],

@@ -21,7 +21,7 @@ pub struct PairWent {
 }
 
 // The last answer where each of n steps stepped.
-pub fn all_stepped(n: usize) -> Last
+fn all_stepped(n: usize) -> Last
     ensures { λ r. ⌜ r ≡ lastOf (soFar n) ⌝ }
 {
     if n == 0 {
@@ -32,7 +32,7 @@ pub fn all_stepped(n: usize) -> Last
 }
 
 // How many bytes from the n-th on are equal to it, without a break.
-pub fn stretch(schedule: &[u8], n: usize) -> usize
+fn stretch(schedule: &[u8], n: usize) -> usize
     requires { ⌜ n < length (now schedule) ⌝ }
     ensures { λ m. ⌜ (0 < m) × (n + m ≤ length (now (schedule .entry))) × ((j : ℕ) → j < m → getD (now (schedule .entry)) (n + j) 0 ≡ getD (now (schedule .entry)) n 0) ⌝ }
 {

@@ -30,7 +30,7 @@ same-length : tie.Need-same-length
 same-length c = search needs
 
 returns : tie.Need-returns
-returns c = let a = c .before .before .before .before .before .before .before .before .before .before .before .before .args in let e = c .before .before .before .before .pair-run .ensures .0 ∙ ap (λ (s : State). pairCall s (c .before .before .before .before .before .before .state-of2 .result) (a .mem .now) (a .schedule .now)) (c .before .before .before .before .before .before .before .before .state-of .ensures) ∙ ap (λ (s : State). pairCall (stateOf (a .first .now)) s (a .mem .now) (a .schedule .now)) (c .before .before .before .before .before .before .state-of2 .ensures) in pair-kept (a .first .now) (a .second .now) _ (a .report .now) _ _ _ _ _ _ e (c .before .of-last .ensures) (c .if1 .taken)
+returns c = let a = c .before .before .before .before .before .before .before .before .before .before .before .before .args in let e = c .before .before .before .before .pair-run .ensures .0 ∙ ap (λ (s : State). pairCall s (c .before .before .before .before .before .before .state-of2 .result) (a .mem .now) (a .schedule .now)) (c .before .before .before .before .before .before .before .before .state-of .ensures) ∙ ap (λ (s : State). pairCall (stateOf (a .first .now)) s (a .mem .now) (a .schedule .now)) (c .before .before .before .before .before .before .state-of2 .ensures) in pair-kept (a .first .now) (a .second .now) _ _ (a .report .now) _ _ _ _ _ _ _ _ e (c .before .of-last .ensures) (c .if1 .taken)
 
 put-state-requires : tie.Need-put-state-requires
 put-state-requires c κs = search needs
@@ -48,7 +48,7 @@ same-length-2 : tie.Need-same-length-2
 same-length-2 c = search needs
 
 returns-2 : tie.Need-returns-2
-returns-2 c = let a = c .before .before .before .before .before .before .before .before .before .before .before .before .before .before .before .before .before .before .before .args in let e = c .before .before .before .before .before .before .before .before .before .before .before .pair-run .ensures .0 ∙ ap (λ (s : State). pairCall s (c .before .before .before .before .before .before .before .before .before .before .before .before .before .state-of2 .result) (a .mem .now) (a .schedule .now)) (c .before .before .before .before .before .before .before .before .before .before .before .before .before .before .before .state-of .ensures) ∙ ap (λ (s : State). pairCall (stateOf (a .first .now)) s (a .mem .now) (a .schedule .now)) (c .before .before .before .before .before .before .before .before .before .before .before .before .before .state-of2 .ensures) in pair-done (a .first .now) _ (a .second .now) _ _ (a .report .now) _ _ _ _ _ _ e (c .before .before .before .before .before .before .before .before .of-last .ensures) (c .before .before .before .before .before .before .before .if1 .left) (c .before .before .before .before .put-state .ensures) (c .before .put-state2 .ensures)
+returns-2 c = let a = c .before .before .before .before .before .before .before .before .before .before .before .before .before .before .before .before .before .before .before .args in let e = c .before .before .before .before .before .before .before .before .before .before .before .pair-run .ensures .0 ∙ ap (λ (s : State). pairCall s (c .before .before .before .before .before .before .before .before .before .before .before .before .before .state-of2 .result) (a .mem .now) (a .schedule .now)) (c .before .before .before .before .before .before .before .before .before .before .before .before .before .before .before .state-of .ensures) ∙ ap (λ (s : State). pairCall (stateOf (a .first .now)) s (a .mem .now) (a .schedule .now)) (c .before .before .before .before .before .before .before .before .before .before .before .before .before .state-of2 .ensures) in pair-done (a .first .now) (a .second .now) _ _ (a .report .now) _ _ _ _ _ _ _ _ e (c .before .before .before .before .before .before .before .before .of-last .ensures) _ _ (c .before .before .before .before .before .before .before .if1 .left) (c .before .before .before .before .put-state .ensures) (c .before .put-state2 .ensures)
 
 pub pulxarrid-pair-run-spec : {M : Type 1} → statement M
 pulxarrid-pair-run-spec =

@@ -26,7 +26,7 @@ same-length : tie.Need-same-length
 same-length c = search needs
 
 returns : tie.Need-returns
-returns c = let e = c .before .before .before .before .run .ensures .0 ∙ ap (λ (s : State). runCall s (c .before .before .before .before .before .before .before .before .before .args .mem .now) (c .before .before .before .before .before .before .before .before .before .args .budget)) (c .before .before .before .before .before .before .state-of .ensures) in run-kept (c .before .before .before .before .before .before .before .before .before .args .state .now) _ (c .before .before .before .before .before .before .before .before .before .args .report .now) _ _ _ _ _ e (c .before .of-ending .ensures) (c .if1 .taken)
+returns c = let e = c .before .before .before .before .run .ensures .0 ∙ ap (λ (s : State). runCall s (c .before .before .before .before .before .before .before .before .before .args .mem .now) (c .before .before .before .before .before .before .before .before .before .args .budget)) (c .before .before .before .before .before .before .state-of .ensures) in run-kept (c .before .before .before .before .before .before .before .before .before .args .state .now) _ _ (c .before .before .before .before .before .before .before .before .before .args .report .now) _ _ _ _ _ _ e (c .before .of-ending .ensures) (c .if1 .taken)
 
 put-state-requires : tie.Need-put-state-requires
 put-state-requires c κs = search needs
@@ -41,7 +41,7 @@ same-length-2 : tie.Need-same-length-2
 same-length-2 c = search needs
 
 returns-2 : tie.Need-returns-2
-returns-2 c = let e = c .before .before .before .before .before .before .before .before .run .ensures .0 ∙ ap (λ (s : State). runCall s (c .before .before .before .before .before .before .before .before .before .before .before .before .before .args .mem .now) (c .before .before .before .before .before .before .before .before .before .before .before .before .before .args .budget)) (c .before .before .before .before .before .before .before .before .before .before .state-of .ensures) in run-done (c .before .before .before .before .before .before .before .before .before .before .before .before .before .args .state .now) _ _ (c .before .before .before .before .before .before .before .before .before .before .before .before .before .args .report .now) _ _ _ _ _ e (c .before .before .before .before .before .of-ending .ensures) (c .before .before .before .before .if1 .left) (c .before .put-state .ensures)
+returns-2 c = let e = c .before .before .before .before .before .before .before .before .run .ensures .0 ∙ ap (λ (s : State). runCall s (c .before .before .before .before .before .before .before .before .before .before .before .before .before .args .mem .now) (c .before .before .before .before .before .before .before .before .before .before .before .before .before .args .budget)) (c .before .before .before .before .before .before .before .before .before .before .state-of .ensures) in run-done (c .before .before .before .before .before .before .before .before .before .before .before .before .before .args .state .now) _ _ _ (c .before .before .before .before .before .before .before .before .before .before .before .before .before .args .report .now) _ _ _ _ _ _ e (c .before .before .before .before .before .of-ending .ensures) (c .before .before .before .before .if1 .left) (c .before .put-state .ensures)
 
 pub pulxarrid-run-spec : {M : Type 1} → statement M
 pulxarrid-run-spec =
