@@ -38,11 +38,11 @@ class Row:
 
 @dataclass
 class Library:
-    """Pair runs; host instructions for a step of a run and for a start and one step,
-    on the smallest and the largest memory."""
+    """Pair runs; host instructions for a step of a run of each workload, and for a
+    start and one step, on the smallest and the largest memory."""
 
     pair: list
-    run: list
+    run: dict
     call: list
 
 
@@ -72,8 +72,8 @@ def text(figures):
             f"{row.times[0]:10.2f}{row.times[1]:8.2f}{row.ratio:7.2f}{row.slowest or '':7}"
         )
     if figures.library:
-        lines += ["", "through the library, host instructions:"]
-        lines += [f"{what:44}{cost}" for what, cost in calls(figures)]
+        lines += ["", "through the library, host instructions    4,096 words  4,194,304 words"]
+        lines += [f"{what:38}{small:>15}{large:>17}" for what, small, large in calls(figures)]
     if figures.inlining is not None:
         left = f"left of the inliner's budget: {figures.inlining:,}"
         lines += ["", f"{left}, at least {figures.spare:,}"]
@@ -82,11 +82,10 @@ def text(figures):
 
 
 def calls(figures):
-    """What the calls of the library cost, as pairs of texts."""
-    used = figures.library
-    for size, step, call in zip(("4,096", "4,194,304"), used.run, used.call):
-        yield f"a step of a run on {size} words", f"{step:.2f}"
-        yield f"a start and one step on {size} words", f"{call:,.0f}"
+    """What the calls of the library cost: a name, on 4,096 words, on 4,194,304."""
+    for name, costs in figures.library.run.items():
+        yield [f"a step of `{name}`"] + [f"{cost:.1f}" for cost in costs]
+    yield ["a start and one step"] + [f"{cost:,.0f}" for cost in figures.library.call]
 
 
 def write(figures, folder):
@@ -126,17 +125,17 @@ def markdown(figures):
 **Builds.** Both are compiled for any x86-64 processor with full optimisation, the peer as one unit with its library. Both move the words of a block or vector at once where they stand in a row inside of their field, and else test each."""
     )
     if figures.library:
-        table = "\n".join(f"| {what} | {cost} |" for what, cost in calls(figures))
+        table = "\n".join("| " + " | ".join(each) + " |" for each in calls(figures))
         parts.append(
             f"""## Through the library
 
-| what | host instructions |
-|---|---|
+| host instructions | on 4,096 words | on 4,194,304 words |
+|---|---:|---:|
 {table}
 
-`bench/library.c` makes these calls. Counts are differences of two runs as above: 200,000 and 1,000,000 steps, or 2,000 and 10,000 calls.
+`bench/library.c` makes these calls. Counts are differences of two runs as above: 200,000 and 1,000,000 steps, or 2,000 and 10,000 calls. Neither a step nor a call may cost over 1 in 100 more on the largest memory.
 
-The sheet `memory` runs on the smallest memory and on the largest. Neither a step nor a call may cost over 1 in 100 more on the largest. A call copies a processor's words in and out and checks them, a run once for all its steps."""
+A step costs a little more here than in `sheet`: a run and a pair run share one copy of its code, which finds the registers by pointers, while in `sheet` they are locals of the one function that everything is inlined into. The limits above are those of `sheet`. A call copies a processor's words in and out and checks them, a run once for all its steps."""
         )
     if figures.inlining is not None:
         parts.append(
