@@ -4,7 +4,13 @@
      library calls WORDS CALLS   so often a start and one step
      library pair TURN STEPS     a pair run, its schedule changing processor after TURN steps
 
-   It prints how many steps were taken, and ends with status 1 if a call is refused. */
+   It prints how many steps were taken. Or on a text of CAL from standard input:
+
+     library assemble COPIES CALLS   so often the text assembled, COPIES of it in a row
+     library list COPIES CALLS       so often its parcels listed, in 16 bytes of room for each
+     library fill COPIES CALLS       so often its parcels listed, in just the room that they need
+
+   It prints how many parcels or bytes the calls wrote. The status is 1 if a call is refused. */
 #include <stdint.h>
 #include <stdio.h>
 #include <stdlib.h>
@@ -17,7 +23,7 @@
 
 typedef uint64_t State[672];
 
-/* The four calls of the library. Each but the start gives the steps that it took. */
+/* The calls of the library. A step or a run gives the steps that it took, assembling or listing what it wrote. */
 
 static void taken(uint64_t refused)
 {
@@ -53,13 +59,33 @@ static uint64_t pair_run(State first, State second, uint64_t *memory, size_t wor
     return answer[2];
 }
 
+static uint64_t assemble(const uint8_t *text, size_t bytes, uint16_t *parcels, size_t room)
+{
+    uint64_t answer[1];
+    taken(pulxarrid_assemble(text, bytes, parcels, room, answer));
+    return answer[0];
+}
+
+static uint64_t list(const uint16_t *parcels, size_t count, uint8_t *text, size_t room)
+{
+    uint64_t answer[1];
+    taken(pulxarrid_list(parcels, count, text, room, answer));
+    return answer[0];
+}
+
+static void *allocated(size_t count, size_t size)
+{
+    void *room = calloc(count ? count : 1, size);
+    if (!room)
+        exit(1);
+    return room;
+}
+
 /* A memory that holds the words of the sheet on standard input. */
 static uint64_t *memory_of_sheet(size_t words)
 {
-    uint64_t *memory = calloc(words, sizeof *memory);
+    uint64_t *memory = allocated(words, sizeof *memory);
     char line[64];
-    if (!memory)
-        exit(1);
     while (fgets(line, sizeof line, stdin)) {
         unsigned long long at, word;
         if (sscanf(line, "%4llx=%16llx", &at, &word) == 2 && at < words)
@@ -97,11 +123,35 @@ static uint64_t pairs(uint64_t *memory, size_t words, uint64_t turn, uint64_t co
     return steps;
 }
 
+/* Copies of the text on standard input, assembled or listed so often: what was written. */
+static uint64_t cal(const char *what, size_t copies, uint64_t count)
+{
+    static uint8_t once[1 << 20];
+    size_t length = fread(once, 1, sizeof once, stdin), bytes = copies * length, room = bytes / 2;
+    uint8_t *text = allocated(bytes, 1), *listing;
+    uint16_t *parcels = allocated(room, sizeof *parcels);
+    uint64_t wrote = 0, held;
+    for (size_t n = 0; n < copies; n++)
+        memcpy(text + n * length, once, length);
+    held = assemble(text, bytes, parcels, room);
+    listing = allocated(PULXARRID_LINE_MOST * held, 1);
+    for (uint64_t n = 0; n < count; n++)
+        if (!strcmp(what, "assemble"))
+            wrote += assemble(text, bytes, parcels, room);
+        else
+            wrote += list(parcels, held, listing, !strcmp(what, "fill") ? bytes : PULXARRID_LINE_MOST * held);
+    return wrote;
+}
+
 int main(int argc, char **argv)
 {
     if (argc != 4)
         return 2;
     uint64_t number = strtoull(argv[2], 0, 10), count = strtoull(argv[3], 0, 10), steps;
+    if (!strcmp(argv[1], "assemble") || !strcmp(argv[1], "list") || !strcmp(argv[1], "fill")) {
+        printf("wrote=%llu\n", (unsigned long long)cal(argv[1], number, count));
+        return 0;
+    }
     if (!strcmp(argv[1], "pair")) {
         if (!number)
             return 2;

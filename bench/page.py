@@ -36,14 +36,44 @@ class Row:
         return self.times[0] / self.times[1]
 
 
+LINE = {
+    "assemble": "a line assembled",
+    "list": "a line listed",
+    "fill": "a line listed, in no spare room",
+}
+
+
+@dataclass
+class Line:
+    """What is done with a line of CAL; its host instructions on the text once and
+    twice; the most of them, if there is a limit."""
+
+    what: str
+    costs: list
+    limit: int
+
+    @property
+    def name(self):
+        return LINE[self.what]
+
+
+@dataclass
+class Cal:
+    """How many lines a text of CAL has, and what one costs."""
+
+    lines: int
+    rows: list
+
+
 @dataclass
 class Library:
     """Pair runs; host instructions for a step of a run of each workload, and for a
-    start and one step, on the smallest and the largest memory."""
+    start and one step, on the smallest and the largest memory; lines of CAL."""
 
     pair: list
     run: dict
     call: list
+    cal: Cal
 
 
 @dataclass
@@ -74,6 +104,12 @@ def text(figures):
     if figures.library:
         lines += ["", "through the library, host instructions    4,096 words  4,194,304 words"]
         lines += [f"{what:38}{small:>15}{large:>17}" for what, small, large in calls(figures)]
+        cal = figures.library.cal
+        head = "through the library, host instructions"
+        lines += ["", f"{head}{cal.lines:>9,} lines{2 * cal.lines:>11,} lines  limit"]
+        for line in cal.rows:
+            once, twice = line.costs
+            lines.append(f"{line.name:38}{once:15.1f}{twice:17.1f}{line.limit or '':7}")
     if figures.inlining is not None:
         left = f"left of the inliner's budget: {figures.inlining:,}"
         lines += ["", f"{left}, at least {figures.spare:,}"]
@@ -137,6 +173,7 @@ def markdown(figures):
 
 A step costs a little more here than in `sheet`: a run and a pair run share one copy of its code, which finds the registers by pointers, while in `sheet` they are locals of the one function that everything is inlined into. The limits above are those of `sheet`. A call copies a processor's words in and out and checks them, a run once for all its steps."""
         )
+        parts.append(cal_page(figures.library.cal))
     if figures.inlining is not None:
         parts.append(
             f"""## The inliner's budget
@@ -144,6 +181,22 @@ A step costs a little more here than in `sheet`: a run and a pair run share one 
 A step is inlined into the loop of a burst. The compiler does that for a function with one call as long as its cost is under a budget of 15,250 units; over it, a step would cost more than twice as much. Where it is tightest, {figures.inlining:,} units are left, and at least {figures.spare:,} are wanted. The figure comes from the compiler's own remarks (`-Rpass=inline`)."""
         )
     return "\n\n".join(parts) + "\n"
+
+
+def cal_page(cal):
+    table = "\n".join(
+        f"| {line.name} | {line.costs[0]:.1f} | {line.costs[1]:.1f} | {line.limit or ''} |"
+        for line in cal.rows
+    )
+    return f"""## CAL
+
+| host instructions | {cal.lines:,} lines | {2 * cal.lines:,} lines | at most |
+|---|---:|---:|---:|
+{table}
+
+The text has a line for each first parcel that is spelled, with 177777 as its second parcel where it takes one, which makes the longest numbers; the independent program lists it. `bench/library.c` assembles it, or lists its parcels, once and twice in one process, and the difference is divided by the lines. What is done once, as reading the text, drops out. On twice the text a line may not cost over 1 in 100 more: the work grows as the text does.
+
+Nothing is written before all lines are known to be good and to fit, so a text is gone through twice. Parcels are so only where the room has less than 16 bytes for each: the third row."""
 
 
 def workloads(figures):

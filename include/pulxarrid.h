@@ -1,9 +1,10 @@
-/* The integer half of a CRAY X-MP: a start, a step, a run and a pair run.
+/* The integer half of a CRAY X-MP: a start, a step, a run and a pair run; and
+ * its assembly language CAL: a text assembled, parcels listed.
  *
  * Link with libexport.a. It calls memcpy and memset, allocates nothing, keeps
  * nothing between calls and may be called from several threads at once, each
  * with its own processors and memory. A pair run takes 24 KB of stack, a run or
- * a step 12 KB.
+ * a step 12 KB, a text assembled or parcels listed at most 7 KB.
  *
  * The caller lends every array. No pointer may be null, not even with a length
  * of 0, and no two arrays of one call may overlap. Whatever numbers they hold,
@@ -55,8 +56,15 @@ enum pulxarrid_place {
 #define PULXARRID_BUDGET_MOST 1000000
 #define PULXARRID_SCHEDULE_MOST 65536
 
+/* The bytes of the longest line of CAL, its newline among them. So a listing
+ * always has room in 16 bytes for each parcel. A parcel takes at least two
+ * bytes of text, so that half as many parcels as the text has bytes always are
+ * room enough to assemble it. */
+#define PULXARRID_LINE_MOST 16
+
 /* What each function returns: 0, or the number of its refusal. A refused call
- * alters nothing. The checks are made in this order, where they apply. */
+ * alters nothing, but that a 10 reports the line. The checks are made in this
+ * order, where they apply. */
 enum pulxarrid_refusal {
     PULXARRID_DONE = 0,
     PULXARRID_BAD_MEMORY = 1,          /* fewer than 4,096 or more than 4,194,304 words */
@@ -65,7 +73,9 @@ enum pulxarrid_refusal {
     PULXARRID_BAD_PROCESSOR = 4,       /* number not 0 or 1; in a pair run, first not 0 or second not 1 */
     PULXARRID_BAD_SCHEDULE_LENGTH = 5, /* schedule over 65,536 bytes */
     PULXARRID_BAD_SCHEDULE_BYTE = 6,   /* a byte over 1 */
-    PULXARRID_BAD_STATE = 7            /* a number too wide for its register, or VL not 1 to 64 */
+    PULXARRID_BAD_STATE = 7,           /* a number too wide for its register, or VL not 1 to 64 */
+    PULXARRID_BAD_LINE = 10,           /* a line of a text cannot be assembled */
+    PULXARRID_NO_ROOM = 18             /* more parcels or bytes than there is room for */
 };
 
 /* The kind of an answer or an ending, and its value. */
@@ -113,6 +123,20 @@ uint64_t pulxarrid_pair_run(uint64_t first[PULXARRID_STATE_WORDS],
                             uint64_t *memory, size_t words,
                             const uint8_t *schedule, size_t turns,
                             uint64_t report[3]);
+
+/* Assembles a text of CAL, each line of it ended by a newline, into at most
+ * room parcels. report: how many were written or, refused with 10, the first
+ * bad line, counted from 1; refused with 18 it stays. Parcels past those
+ * written stay. */
+uint64_t pulxarrid_assemble(const uint8_t *text, size_t bytes,
+                            uint16_t *parcels, size_t room,
+                            uint64_t report[1]);
+
+/* Lists parcels as CAL, in at most room bytes. report: how many were written;
+ * refused, it stays. Bytes past those written stay: no 0 ends the text. */
+uint64_t pulxarrid_list(const uint16_t *parcels, size_t count,
+                        uint8_t *text, size_t room,
+                        uint64_t report[1]);
 
 #ifdef __cplusplus
 }

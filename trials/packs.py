@@ -1,7 +1,8 @@
-"""What `run` and `store` share: the independent programs, and packs of sheets.
+"""What `run` and `store` share: the independent programs, and packs of texts.
 
-A sheet is a pair, its name and its bytes. A pack holds, for each sheet, a line
-`@ NAME BYTES` and then so many bytes.
+A text, a case sheet or one for the assembler or the lister, is a pair here: its
+name and its bytes. A pack holds, for each text, a line `@ NAME BYTES` and then
+so many bytes.
 """
 
 import os
@@ -26,27 +27,27 @@ def output(command, text=b""):
 
 
 def made(kind, first, last):
-    """The generator's sheets of a kind, from seed `first` to seed `last`."""
+    """The generator's texts of a kind, from seed `first` to seed `last`."""
     return unpack(output([program("generate"), kind, str(first), str(last)]))
 
 
 def unpack(pack):
-    sheets, at = [], 0
+    texts, at = [], 0
     while at < len(pack):
         line = pack.index(b"\n", at)
         _, name, length = pack[at:line].split()
         at = line + 1 + int(length)
-        sheets.append((name.decode(), pack[line + 1 : at]))
-    return sheets
+        texts.append((name.decode(), pack[line + 1 : at]))
+    return texts
 
 
-def packed(sheets):
-    return b"".join(b"@ %s %d\n%s" % (name.encode(), len(text), text) for name, text in sheets)
+def packed(texts):
+    return b"".join(b"@ %s %d\n%s" % (name.encode(), len(text), text) for name, text in texts)
 
 
-def answers(sheets):
-    """The independent program's answers, in the order of the sheets."""
-    parts = output([program("batch")], packed(sheets)).split(b"@ ")[1:]
+def answers(texts, by="batch"):
+    """The answers of an independent program, in the order of the texts."""
+    parts = output([program(by)], packed(texts)).split(b"@ ")[1:]
     found = [part.split(b"\n", 1) for part in parts]
-    assert [name.decode() for name, _ in found] == [name for name, _ in sheets]
+    assert [name.decode() for name, _ in found] == [name for name, _ in texts]
     return [answer for _, answer in found]

@@ -1,4 +1,5 @@
-//! The integer half of a CRAY X-MP: a start, a step, a run and a pair run.
+//! The integer half of a CRAY X-MP: a start, a step, a run and a pair run; and
+//! its assembly language CAL: a text assembled, parcels listed.
 //!
 //! Safe functions over the proved library. What each call gives is stated and
 //! proved there; this file only gives the numbers names. The declarations of
@@ -55,6 +56,20 @@ extern "C" {
         schedule: *const u8,
         turns: usize,
         report: &mut [u64; 3],
+    ) -> u64;
+    fn pulxarrid_assemble(
+        text: *const u8,
+        bytes: usize,
+        parcels: *mut u16,
+        room: usize,
+        report: &mut [u64; 1],
+    ) -> u64;
+    fn pulxarrid_list(
+        parcels: *const u16,
+        count: usize,
+        text: *mut u8,
+        room: usize,
+        report: &mut [u64; 1],
     ) -> u64;
 }
 
@@ -185,7 +200,7 @@ impl Refused {
             5 => Err(Refused::ScheduleLength),
             6 => Err(Refused::ScheduleByte),
             7 => Err(Refused::State),
-            _ => unreachable!("the library has seven refusals"),
+            _ => unreachable!("there are seven refusals"),
         }
     }
 }
@@ -313,4 +328,128 @@ pub fn pair_run(
     let [kind, value, steps] = report;
     let last = Answer::new(kind, value);
     Ok(PairRan { last, steps })
+}
+
+/// The bytes of the longest line of CAL, its newline among them.
+pub const LINE_MOST: usize = 16;
+
+/// The first line of a text, counted from 1, that cannot be assembled.
+#[derive(Clone, Copy, PartialEq, Eq, Debug)]
+pub struct BadLine(pub usize);
+
+impl fmt::Display for BadLine {
+    fn fmt(&self, f: &mut fmt::Formatter) -> fmt::Result {
+        write!(f, "line {} cannot be assembled", self.0)
+    }
+}
+
+impl std::error::Error for BadLine {}
+
+/// Parcels or a text need more room than was lent. It is as it was.
+#[derive(Clone, Copy, PartialEq, Eq, Debug)]
+pub struct NoRoom;
+
+impl fmt::Display for NoRoom {
+    fn fmt(&self, f: &mut fmt::Formatter) -> fmt::Result {
+        f.write_str("there is more than the lent room holds")
+    }
+}
+
+impl std::error::Error for NoRoom {}
+
+/// Why a text was not assembled into lent room. The room is as it was. A bad
+/// line is told first.
+#[derive(Clone, Copy, PartialEq, Eq, Debug)]
+pub enum NotAssembled {
+    BadLine(BadLine),
+    NoRoom(NoRoom),
+}
+
+impl fmt::Display for NotAssembled {
+    fn fmt(&self, f: &mut fmt::Formatter) -> fmt::Result {
+        match self {
+            NotAssembled::BadLine(why) => why.fmt(f),
+            NotAssembled::NoRoom(why) => why.fmt(f),
+        }
+    }
+}
+
+impl std::error::Error for NotAssembled {}
+
+/// The parcels of a text of CAL, each line of it ended by a newline.
+///
+/// ```
+/// let text = "022 A1 5\n022 A2 7\nA3 A1+A2\n0,A0 A3\n";
+/// let parcels = pulxarrid::assemble(text)?;
+/// assert_eq!(parcels, [0o022105, 0o022207, 0o030312, 0o110300, 0]);
+/// assert_eq!(pulxarrid::list(&parcels), text);
+/// // four parcels to a word, the first the highest
+/// let word = parcels[..4].iter().fold(0, |word, parcel| word << 16 | u64::from(*parcel));
+/// assert_eq!(word, 0x2445_2487_30CA_90C0);
+/// assert_eq!(pulxarrid::assemble("PASS\nA1 5\n"), Err(pulxarrid::BadLine(2)));
+/// # Ok::<(), pulxarrid::BadLine>(())
+/// ```
+pub fn assemble(text: &str) -> Result<Vec<u16>, BadLine> {
+    // a parcel takes at least two bytes
+    let mut parcels = vec![0; text.len() / 2];
+    match assemble_into(text.as_bytes(), &mut parcels) {
+        Ok(count) => parcels.truncate(count),
+        Err(NotAssembled::BadLine(line)) => return Err(line),
+        Err(NotAssembled::NoRoom(_)) => unreachable!("a parcel takes at least two bytes"),
+    }
+    Ok(parcels)
+}
+
+/// Assembles a text into lent room: how many parcels it has. Those past them
+/// stay.
+pub fn assemble_into(text: &[u8], room: &mut [u16]) -> Result<usize, NotAssembled> {
+    let mut report = [0];
+    let number = unsafe {
+        pulxarrid_assemble(
+            text.as_ptr(),
+            text.len(),
+            room.as_mut_ptr(),
+            room.len(),
+            &mut report,
+        )
+    };
+    let told = report[0] as usize;
+    match number {
+        0 => Ok(told),
+        10 => Err(NotAssembled::BadLine(BadLine(told))),
+        18 => Err(NotAssembled::NoRoom(NoRoom)),
+        _ => unreachable!("a text is refused in two ways"),
+    }
+}
+
+/// Parcels as CAL, a line for each instruction. One that begins none, or whose
+/// second parcel is missing, is listed as `data=` with six octal digits.
+///
+/// ```
+/// assert_eq!(pulxarrid::list(&[0o001000, 0o042100, 0o006000]), "PASS\nS1 <100\ndata=006000\n");
+/// ```
+pub fn list(parcels: &[u16]) -> String {
+    let mut text = vec![0; LINE_MOST * parcels.len()];
+    let bytes = list_into(parcels, &mut text).expect("a line has at most 16 bytes");
+    text.truncate(bytes);
+    String::from_utf8(text).expect("CAL is ASCII")
+}
+
+/// Lists parcels in lent room: how many bytes that takes. Those past them stay.
+pub fn list_into(parcels: &[u16], room: &mut [u8]) -> Result<usize, NoRoom> {
+    let mut report = [0];
+    let number = unsafe {
+        pulxarrid_list(
+            parcels.as_ptr(),
+            parcels.len(),
+            room.as_mut_ptr(),
+            room.len(),
+            &mut report,
+        )
+    };
+    match number {
+        0 => Ok(report[0] as usize),
+        18 => Err(NoRoom),
+        _ => unreachable!("parcels are refused in one way"),
+    }
 }

@@ -197,7 +197,7 @@ impl Pair {
 
 /// The memory of a random case sheet, and its budget.
 fn sheet(kind: &str, seed: u64) -> (Vec<u64>, u64) {
-    let text = peer::cases::sheet(kind, seed).expect("a kind of sheet");
+    let text = peer::cases::text(kind, seed).expect("a kind of sheet");
     let sheet = peer::read(&text).expect("a good sheet");
     (peer::sheet::memory(&sheet), sheet.steps)
 }

@@ -1,4 +1,5 @@
-/* Calls the library from C: places, answers, refusals, memories of every size. */
+/* Calls the library from C: places, answers, refusals, memories of every size;
+ * texts assembled and parcels listed. */
 #include "pulxarrid.h"
 
 #include <stdio.h>
@@ -288,6 +289,115 @@ static void largest(void)
     free(m);
 }
 
+/* Two numbers are added and the sum is stored; then a code that is not held. */
+static const char sum[] = "022 A1 5\n022 A2 7\nA3 A1+A2\n0,A0 A3\ndata=000001\n";
+static const uint16_t sum_parcels[] = {022105, 022207, 030312, 0110300, 0, 1};
+#define SUM_PARCELS (sizeof sum_parcels / sizeof *sum_parcels)
+#define SUM_BYTES (sizeof sum - 1)
+
+/* Rooms for twice as much, and what a call reports. */
+static uint16_t parcels[2 * SUM_PARCELS];
+static uint8_t text[2 * SUM_BYTES];
+static uint64_t told[1];
+
+static void empty_rooms(void)
+{
+    memset(parcels, 0xAA, sizeof parcels);
+    memset(text, 0xAA, sizeof text);
+    told[0] = 0xAAAA;
+}
+
+/* Whether the rooms are as they were but for so many first bytes of each. */
+static int rest_stays(size_t of_parcels, size_t of_text)
+{
+    const uint8_t *bytes = (const uint8_t *)parcels;
+    size_t n;
+
+    for (n = of_parcels; n < sizeof parcels; n++)
+        if (bytes[n] != 0xAA)
+            return 0;
+    for (n = of_text; n < sizeof text; n++)
+        if (text[n] != 0xAA)
+            return 0;
+    return 1;
+}
+
+static uint64_t assembles(const char *line, size_t room)
+{
+    empty_rooms();
+    return pulxarrid_assemble((const uint8_t *)line, strlen(line), parcels, room, told);
+}
+
+static uint64_t lists(size_t room)
+{
+    empty_rooms();
+    return pulxarrid_list(sum_parcels, SUM_PARCELS, text, room, told);
+}
+
+/* A program assembled, put into memory and run; the same listed. */
+static void cal(void)
+{
+    size_t n;
+
+    check(assembles(sum, 2 * SUM_PARCELS) == 0 && told[0] == SUM_PARCELS, "a text assembled");
+    check(memcmp(parcels, sum_parcels, sizeof sum_parcels) == 0, "gives its parcels");
+    check(rest_stays(sizeof sum_parcels, 0), "and leaves the others");
+    put_sum();
+    memset(memory + 0x400, 0, 2 * sizeof *memory);
+    for (n = 0; n < told[0]; n++)
+        memory[0x400 + n / 4] |= (uint64_t)parcels[n] << (48 - n % 4 * 16);
+    check(pulxarrid_start(state, memory, 4096, 0, 0) == 0
+          && is(pulxarrid_run(state, memory, 4096, 100, report), report, PULXARRID_NOT_HELD, 5)
+          && report[2] == 4 && memory[0x800] == 12, "the program runs");
+    check(lists(2 * SUM_BYTES) == 0 && told[0] == SUM_BYTES, "parcels listed");
+    check(memcmp(text, sum, SUM_BYTES) == 0, "give their text");
+    check(rest_stays(0, SUM_BYTES), "and leave the rest");
+}
+
+static void cal_refusals(void)
+{
+    static const char *const bad[] = {"A1 5\n", "PASS", "pass\n", "\n", "PASS \n", "022 A1 100\n", "data=001000\n",
+                                      "data=020100\nPASS\n", "S1 RT\n"};
+    unsigned n;
+
+    for (n = 0; n < sizeof bad / sizeof *bad; n++) {
+        check(assembles(bad[n], 2) == PULXARRID_BAD_LINE && told[0] == 1, bad[n]);
+        check(rest_stays(0, 0), "a refused text alters no parcel");
+    }
+    check(assembles("PASS\nEX\nA1 5\nEX\n", 9) == PULXARRID_BAD_LINE && told[0] == 3, "the third line is bad");
+    check(assembles("PASS\nEX\nA1 5\nEX\n", 1) == PULXARRID_BAD_LINE && told[0] == 3, "before there is too little room");
+    check(assembles(sum, SUM_PARCELS - 1) == PULXARRID_NO_ROOM && told[0] == 0xAAAA && rest_stays(0, 0),
+          "one parcel too little room");
+    check(assembles(sum, 0) == PULXARRID_NO_ROOM && told[0] == 0xAAAA && rest_stays(0, 0), "no room");
+    check(assembles(sum, SUM_PARCELS) == 0 && told[0] == SUM_PARCELS && rest_stays(sizeof sum_parcels, 0),
+          "just the room for parcels");
+    check(assembles("", 0) == 0 && told[0] == 0 && rest_stays(0, 0), "no text, no parcels");
+    check(lists(SUM_BYTES - 1) == PULXARRID_NO_ROOM && told[0] == 0xAAAA && rest_stays(0, 0), "one byte too little room");
+    check(lists(0) == PULXARRID_NO_ROOM && told[0] == 0xAAAA && rest_stays(0, 0), "no room for bytes");
+    check(lists(SUM_BYTES) == 0 && told[0] == SUM_BYTES && rest_stays(0, SUM_BYTES), "just the room for bytes");
+    empty_rooms();
+    check(pulxarrid_list(sum_parcels, 0, text, 0, told) == 0 && told[0] == 0 && rest_stays(0, 0), "no parcels, no text");
+}
+
+/* Each first parcel, with a second and without one, is listed in the room that
+ * the header says and comes back. */
+static void every_parcel(void)
+{
+    uint8_t line[2 * PULXARRID_LINE_MOST];
+    uint16_t one[2], back[2];
+    unsigned first, count, good = 0;
+
+    for (first = 0; first < 65536; first++)
+        for (count = 1; count <= 2; count++) {
+            one[0] = (uint16_t)first;
+            one[1] = (uint16_t)(first * 40503u >> 8);
+            good += pulxarrid_list(one, count, line, count * PULXARRID_LINE_MOST, told) == 0
+                && pulxarrid_assemble(line, told[0], back, told[0] / 2 < count ? told[0] / 2 : count, told) == 0
+                && told[0] == count && memcmp(one, back, count * sizeof *one) == 0;
+        }
+    check(good == 2 * 65536, "each parcel comes back");
+}
+
 int main(void)
 {
     places();
@@ -297,6 +407,9 @@ int main(void)
     pair_run();
     refusals();
     largest();
+    cal();
+    cal_refusals();
+    every_parcel();
     printf("%d passed, %d failed\n", passed, failed);
     return failed != 0;
 }

@@ -18,11 +18,17 @@
 static uint64_t memory[4096], first[PULXARRID_STATE_WORDS], second[PULXARRID_STATE_WORDS];
 static uint64_t answer[2], report[3];
 static const uint8_t schedule[64] = {0, 1, 1, 0, 0, 1};
+static uint16_t parcels[] = {022105, 013777, 0177777, 0147123, 0110300, 0, 020100};
+static uint8_t text[sizeof parcels / sizeof *parcels * PULXARRID_LINE_MOST];
+static uint64_t bytes[1], count[1];
 
 static void start(void) { pulxarrid_start(first, memory, 4096, 0, 0); }
 static void step(void) { pulxarrid_step(first, memory, 4096, answer); }
 static void run(void) { pulxarrid_run(first, memory, 4096, 1000, report); }
 static void pair_run(void) { pulxarrid_pair_run(first, second, memory, 4096, schedule, 64, report); }
+
+static void list(void) { pulxarrid_list(parcels, sizeof parcels / sizeof *parcels, text, sizeof text, bytes); }
+static void assemble(void) { pulxarrid_assemble(text, bytes[0], parcels, sizeof parcels / sizeof *parcels, count); }
 
 static unsigned char *stack;
 static void (*what)(void);
@@ -74,7 +80,7 @@ static void prepare(void)
 int main(void)
 {
     static const struct { const char *name; void (*call)(void); } calls[] = {
-        {"start", start}, {"step", step}, {"run", run}, {"pair run", pair_run}
+        {"start", start}, {"step", step}, {"run", run}, {"pair run", pair_run}, {"listing", list}, {"text assembled", assemble}
     };
     unsigned n;
     int passed = 0, failed = 0;

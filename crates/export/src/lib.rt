@@ -7,7 +7,7 @@ ghost use lib.ListN.{length, take};
 ghost use lib.Seq.{paste};
 ghost use Rattle.machine.specs.Call.{startCall, stepCall, runCall, pairCall, answerNumbers, saidNumbers, endingNumbers, lastNumbers};
 ghost use Rattle.export.specs.Words.{part, stateOf, controlOf, wordsOf};
-ghost use Rattle.export.specs.Left.{left, threeOf, afterStart, afterStep, afterRun, afterPair};
+ghost use Rattle.export.specs.Left.{left, threeOf, afterStart, afterStep, afterRun, afterPair, afterAssemble, afterList};
 use machine::Answer;
 use machine::Ending;
 use machine::Frame;
@@ -16,6 +16,8 @@ use machine::ParcelAddr;
 use machine::Registers;
 use machine::Said;
 use machine::State;
+use spelling::Assembled;
+use spelling::Listed;
 
 // Copies a part of a state's words.
 fn copy_in(to: &mut [u64], words: &[u64; 672], at: usize)
@@ -290,4 +292,38 @@ pub extern "C" fn pulxarrid_pair_run(
     put_state(second, y);
     *report = [n[1], n[2], ran.steps];
     0
+}
+
+// A text assembled: `report` takes how many parcels were written, or the bad line, counted from 1.
+#[no_mangle]
+pub extern "C" fn pulxarrid_assemble(text: &[u8], parcels: &mut [u16], report: &mut [u64; 1]) -> u64
+    ensures { λ r. ⌜ left r (now (parcels .exit) ∷ now (report .exit) ∷ [])
+        ≡ afterAssemble (now (text .entry)) (now (parcels .entry)) (now (report .entry)) ⌝ }
+{
+    match assembly::assemble(text, parcels) {
+        Assembled::Parcels(n) => {
+            *report = [n as u64];
+            0
+        }
+        Assembled::BadLine(line) => {
+            *report = [line as u64];
+            10
+        }
+        Assembled::Overfull => 18,
+    }
+}
+
+// Parcels listed: `report` takes how many bytes were written.
+#[no_mangle]
+pub extern "C" fn pulxarrid_list(parcels: &[u16], text: &mut [u8], report: &mut [u64; 1]) -> u64
+    ensures { λ r. ⌜ left r (now (text .exit) ∷ now (report .exit) ∷ [])
+        ≡ afterList (now (parcels .entry)) (now (text .entry)) (now (report .entry)) ⌝ }
+{
+    match assembly::list(parcels, text) {
+        Listed::Bytes(n) => {
+            *report = [n as u64];
+            0
+        }
+        Listed::TooLong => 18,
+    }
 }

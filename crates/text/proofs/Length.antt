@@ -29,7 +29,7 @@ module _ (b : ℕ) (big : 1 < b) where
           let some : 0 < b = omega arith in
           omega (arith, more k (div-lt-iff-lt-mul some .1 (subst (λ (m : ℕ). n < m) (pow-suc b (suc k)) h)))
 
-  shown-most : (least n k : ℕ) → n < b ^ suc k → least ≤ suc k → length (shown b least n) ≤ suc k
+  pub shown-most : (least n k : ℕ) → n < b ^ suc k → least ≤ suc k → length (shown b least n) ≤ suc k
   unfolding shown widthOf
   shown-most least n k h l = rw (digits-length b (widthOf b least n) n) (go (ltb (placesOf n b n) least))
     where

@@ -12,7 +12,7 @@ use Rattle.text.specs.Digits.{glyphOf, digits, placesOf, widthOf, shown}
 use Rattle.text.specs.Report.{afterCommas, commas, changes, change, changeText, changedWords, Wrote}
 use Rattle.text.proofs.Reading.{left-suc}
 
-sets-append : (l : List ℕ) (i : ℕ) (xs ys : List ℕ) → sets l i (xs ++ ys) ≡ sets (sets l i xs) (i + length xs) ys
+pub sets-append : (l : List ℕ) (i : ℕ) (xs ys : List ℕ) → sets l i (xs ++ ys) ≡ sets (sets l i xs) (i + length xs) ys
 sets-append l i [] ys = simp add-zero
 sets-append l i (x ∷ xs) ys = simp add-suc (sets-append (set l i x) (suc i) xs ys ∙ simp suc-add)
 

@@ -46,7 +46,7 @@ digits base (suc k) n = digits base k (n / base) ++ (glyphOf (n % base) ∷ [])
 -- how many digits n has without leading zeros, `0` having one, counted by at most `most` divisions: n are enough
 unfoldable pub placesOf : ℕ → ℕ → ℕ → ℕ
 placesOf zero base n = 1
-placesOf (suc most) base n = pick (ltb n base) 1 (placesOf most base (n / base) + 1)
+placesOf (suc most) base n = let more = placesOf most base (n / base) + 1 in pick (ltb n base) 1 more
 
 -- the larger of that and `least`
 unfoldable pub widthOf : ℕ → ℕ → ℕ → ℕ

@@ -303,7 +303,7 @@ pub fn read(text: &[u8], mem: &mut [u64]) -> Sheet
 // answers the place after its text all the same.
 
 // One byte.
-fn put_byte(out: &mut [u8], at: usize, b: u8)
+pub fn put_byte(out: &mut [u8], at: usize, b: u8)
     ensures { λ _. ⌜ now (out .exit) ≡ set (now (out .entry)) at b ⌝ }
 {
     if at < out.len() {
@@ -312,7 +312,7 @@ fn put_byte(out: &mut [u8], at: usize, b: u8)
 }
 
 // A text as it stands.
-fn put_text(out: &mut [u8], at: usize, text: &[u8]) -> usize
+pub fn put_text(out: &mut [u8], at: usize, text: &[u8]) -> usize
     requires { ⌜ (at ≤ 1000000000) × (length (now text) ≤ 64) ⌝ }
     ensures { λ r. ⌜ Wrote (now (out .entry)) at (now (text .entry)) (now (out .exit)) r × (r ≤ at + 64) ⌝ }
 {
@@ -333,7 +333,7 @@ fn glyph(d: u64) -> u8
 }
 
 // The last k digits of n.
-fn put_digits(out: &mut [u8], at: usize, n: u64, base: u64, k: usize)
+pub fn put_digits(out: &mut [u8], at: usize, n: u64, base: u64, k: usize)
     requires { ⌜ (at ≤ 1000000000) × (k ≤ 64) × (0 < base) × (base ≤ 16) ⌝ }
     ensures { λ _. ⌜ now (out .exit) ≡ sets (now (out .entry)) at (digits base k n) ⌝ }
 {
@@ -361,7 +361,7 @@ fn places(n: u64, base: u64) -> u64
 }
 
 // A number, with zeros in front up to least digits.
-fn put_number(out: &mut [u8], at: usize, n: u64, base: u64, least: u64) -> usize
+pub fn put_number(out: &mut [u8], at: usize, n: u64, base: u64, least: u64) -> usize
     requires { ⌜ (at ≤ 1000000000) × (1 < base) × (base ≤ 16) × (least ≤ 64) ⌝ }
     ensures { λ r. ⌜ Wrote (now (out .entry)) at (shown base least n) (now (out .exit)) r × (r ≤ at + 64) ⌝ }
 {

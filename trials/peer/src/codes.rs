@@ -11,7 +11,7 @@ pub enum Mode {
 }
 
 /// Six places of octal digits, highest first. A digit stands for itself; `h`,
-/// `i`, `j`, `k` are any digit; `u` is an i of 0 to 3 and `c` one of 4 to 7.
+/// `i`, `j`, `k` are any digit; `u` is one of 0 to 3 and `c` one of 4 to 7.
 /// A seventh letter, `m`, marks a second parcel.
 #[derive(Clone, Copy, Debug)]
 pub struct Code {
@@ -77,14 +77,13 @@ pub fn split(parcel: u16) -> [u16; 6] {
     [0, 1, 2, 3, 4, 5].map(digit)
 }
 
-impl Code {
-    pub fn fits(&self, parcel: u16) -> bool {
-        let pairs = self.text.bytes().zip(split(parcel));
-        pairs
-            .into_iter()
-            .all(|(letter, digit)| digits(letter).contains(&digit))
-    }
+/// Whether a pattern's first parcels include this one.
+pub fn fits(text: &str, parcel: u16) -> bool {
+    let mut pairs = text.bytes().zip(split(parcel));
+    pairs.all(|(letter, digit)| digits(letter).contains(&digit))
+}
 
+impl Code {
     pub fn two_parcels(&self) -> bool {
         self.text.len() == 7
     }
@@ -96,5 +95,5 @@ impl Code {
 
 /// The pattern of a first parcel, if it is held in some mode.
 pub fn find(parcel: u16) -> Option<usize> {
-    CODES.iter().position(|code| code.fits(parcel))
+    CODES.iter().position(|code| fits(code.text, parcel))
 }

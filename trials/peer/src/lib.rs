@@ -3,19 +3,24 @@
 //! It is written by hand from the rules alone, so that another program can be
 //! compared with it. The machine is in `machine` (start, step, run, pair run),
 //! its instructions in `ops`, the exchange package in `state`, and the case
-//! sheet in `sheet`. `cases` makes case sheets from seeds and `cover` counts
-//! what they reach.
+//! sheet in `sheet`. `cal` has the assembler and its listing. `cases` makes case
+//! sheets and texts for `cal` from seeds, `cover` counts what the sheets reach,
+//! and `packs` answers many texts in one process.
 
 #![forbid(unsafe_code)]
 
+pub mod cal;
 pub mod cases;
 pub mod codes;
 pub mod cover;
 pub mod machine;
 mod ops;
+pub mod packs;
 pub mod sheet;
 pub mod state;
 
+#[cfg(test)]
+mod cal_tests;
 #[cfg(test)]
 mod tests;
 

@@ -368,7 +368,7 @@ fn second_idle() -> State {
 #[test]
 fn a_run_takes_the_steps_of_step() {
     for seed in 0..60 {
-        let text = cases::sheet("random", seed).unwrap();
+        let text = cases::text("random", seed).unwrap();
         let sheet = read(&text).unwrap();
         let mut memory = crate::sheet::memory(&sheet);
         let mut state = start(&memory, 0, 0).unwrap();
@@ -436,10 +436,10 @@ fn the_longest_text_and_one_over_it() {
 #[test]
 fn kinds_make_good_and_bad_sheets() {
     for seed in 0..200 {
-        assert!(read(&cases::sheet("random", seed).unwrap()).is_ok());
-        assert!(read(&cases::sheet("sweep", seed * 655).unwrap()).is_ok());
+        assert!(read(&cases::text("random", seed).unwrap()).is_ok());
+        assert!(read(&cases::text("sweep", seed * 655).unwrap()).is_ok());
     }
-    let good = |seed: &u64| read(&cases::sheet("damaged", *seed).unwrap()).is_ok();
+    let good = |seed: &u64| read(&cases::text("damaged", *seed).unwrap()).is_ok();
     let whole = (0..1_000).filter(good).count();
     assert!((50..400).contains(&whole), "{whole}");
 }
@@ -448,23 +448,26 @@ fn kinds_make_good_and_bad_sheets() {
 fn a_sweep_reaches_its_parcel() {
     for seed in [0o004_000, 0o176_305, 65_536 + 0o001_000, 131_071] {
         let mut cover = Cover::new();
-        cover.sheet(&cases::sheet("sweep", seed).unwrap());
+        cover.sheet(&cases::text("sweep", seed).unwrap());
         assert!(cover.tried(seed as u16, seed > 65_535), "{seed}");
     }
 }
 
-/// A number that any change of the sheets changes (FNV-1a over their bytes).
+/// A number that any change of the texts changes (FNV-1a over their bytes).
 fn mark(kind: &str, seeds: std::ops::Range<u64>) -> u64 {
     let mut mark: u64 = 0xCBF2_9CE4_8422_2325;
-    for byte in seeds.flat_map(|seed| cases::sheet(kind, seed).unwrap()) {
+    for byte in seeds.flat_map(|seed| cases::text(kind, seed).unwrap()) {
         mark = (mark ^ u64::from(byte)).wrapping_mul(0x100_0000_01B3);
     }
     mark
 }
 
 #[test]
-fn seeds_name_the_same_sheets_for_ever() {
+fn seeds_name_the_same_texts_for_ever() {
     assert_eq!(mark("random", 0..100), 0x2539_B2D0_BAE1_DE06);
     assert_eq!(mark("sweep", 65_500..65_600), 0xC297_A90C_9B50_ED73);
     assert_eq!(mark("damaged", 0..300), 0x2CC1_A50E_A8EF_1784);
+    assert_eq!(mark("cal", 0..100), 0x75BA_6BDE_5C35_1D85);
+    assert_eq!(mark("cal-damaged", 0..400), 0x18B1_1362_AF6A_9045);
+    assert_eq!(mark("octal", 0..200), 0x2693_9A00_2EE0_4592);
 }

@@ -1,16 +1,18 @@
-//! Makes case sheets from seeds.
+//! Makes case sheets, and texts for the assembler and the lister, from seeds.
 //!
-//!   generate KIND SEED                one sheet to standard output
-//!   generate KIND FIRST LAST          a pack of sheets to standard output
-//!   generate KIND FIRST LAST FOLDER   one file for each sheet
+//!   generate KIND SEED                one text to standard output
+//!   generate KIND FIRST LAST          a pack of texts to standard output
+//!   generate KIND FIRST LAST FOLDER   one file for each text
 //!   generate --cover KIND FIRST LAST [KIND FIRST LAST ...]
 //!       runs the sheets, prints what they reached to standard error, and
 //!       fails if something that they should reach is missing
 //!
-//! KIND is random, sweep or damaged; FIRST and LAST are both included. A pack
-//! has, for each sheet, a line `@ NAME BYTES` and then so many bytes.
+//! KIND is random, sweep or damaged for sheets, cal or cal-damaged for texts of
+//! the assembler, octal for those of the lister; FIRST and LAST are both
+//! included. A pack has, for each text, a line `@ NAME BYTES` and then so many
+//! bytes.
 
-use peer::cases::{sheet, KINDS};
+use peer::cases::{Kind, KINDS};
 use peer::cover::Cover;
 use std::io::{self, BufWriter, Write};
 use std::path::Path;
@@ -37,24 +39,26 @@ fn main() -> ExitCode {
 
 type Done = Result<(), Box<dyn std::error::Error>>;
 
-fn text(kind: &str, seed: u64) -> Result<Vec<u8>, String> {
-    sheet(kind, seed).ok_or_else(|| format!("no kind {kind}; there are {}", KINDS.join(", ")))
+fn kind(name: &str) -> Result<&'static Kind, String> {
+    let names = KINDS.map(|kind| kind.name).join(", ");
+    peer::cases::kind(name).ok_or_else(|| format!("no kind {name}; there are {names}"))
 }
 
-fn name(kind: &str, seed: u64) -> String {
-    format!("{kind}-{seed:06}")
+fn name(kind: &Kind, seed: u64) -> String {
+    format!("{}-{seed:06}", kind.name)
 }
 
-fn one(kind: &str, seed: &str) -> Done {
-    let text = text(kind, seed.parse()?)?;
+fn one(of: &str, seed: &str) -> Done {
+    let text = (kind(of)?.text)(seed.parse()?);
     io::stdout().write_all(&text)?;
     Ok(())
 }
 
-fn pack(kind: &str, first: &str, last: &str) -> Done {
+fn pack(of: &str, first: &str, last: &str) -> Done {
+    let kind = kind(of)?;
     let mut out = BufWriter::new(io::stdout().lock());
     for seed in first.parse()?..=last.parse()? {
-        let text = text(kind, seed)?;
+        let text = (kind.text)(seed);
         writeln!(out, "@ {} {}", name(kind, seed), text.len())?;
         out.write_all(&text)?;
     }
@@ -62,11 +66,12 @@ fn pack(kind: &str, first: &str, last: &str) -> Done {
     Ok(())
 }
 
-fn files(kind: &str, first: &str, last: &str, folder: &str) -> Done {
+fn files(of: &str, first: &str, last: &str, folder: &str) -> Done {
+    let kind = kind(of)?;
     std::fs::create_dir_all(folder)?;
     for seed in first.parse()?..=last.parse()? {
-        let file = Path::new(folder).join(name(kind, seed) + ".sheet");
-        std::fs::write(file, text(kind, seed)?)?;
+        let file = format!("{}.{}", name(kind, seed), kind.ending);
+        std::fs::write(Path::new(folder).join(file), (kind.text)(seed))?;
     }
     Ok(())
 }
@@ -74,11 +79,12 @@ fn files(kind: &str, first: &str, last: &str, folder: &str) -> Done {
 fn cover(ranges: &[&str]) -> Done {
     let mut cover = Cover::new();
     for range in ranges.chunks(3) {
-        let [kind, first, last] = *range else {
+        let [of, first, last] = *range else {
             return Err("--cover wants KIND FIRST LAST".into());
         };
+        let text = kind(of)?.text;
         for seed in first.parse()?..=last.parse()? {
-            cover.sheet(&text(kind, seed)?);
+            cover.sheet(&text(seed));
         }
     }
     cover.print(&mut io::stderr().lock())?;

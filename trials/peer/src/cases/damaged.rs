@@ -190,7 +190,8 @@ fn base(draw: &mut Draw) -> Vec<u8> {
     draft.text()
 }
 
-fn damage(draw: &mut Draw, text: &mut Vec<u8>) {
+/// Changes bytes or lines of a text at a drawn place.
+pub fn damage(draw: &mut Draw, text: &mut Vec<u8>) {
     // The early lines hold the counts, so they are hit more often.
     let reach = if draw.often(50) { 40 } else { u64::MAX };
     let place = draw.below(reach.min(text.len() as u64 + 1)) as usize;
@@ -213,21 +214,25 @@ fn damage(draw: &mut Draw, text: &mut Vec<u8>) {
                 .into_iter()
                 .for_each(|n| text[n].make_ascii_lowercase());
         }
-        9 => lines(draw, text, |lines, n| lines.swap(n, n / 2)),
-        10 => lines(draw, text, |lines, n| drop(lines.remove(n))),
-        _ => lines(draw, text, |lines, n| lines.insert(n, lines[n].clone())),
+        9 => lines(draw, text, |_, lines, n| lines.swap(n, n / 2)),
+        10 => lines(draw, text, |_, lines, n| drop(lines.remove(n))),
+        _ => lines(draw, text, |_, lines, n| lines.insert(n, lines[n].clone())),
     }
 }
 
-/// Changes the order or the number of lines, each kept with its newline.
-fn lines(draw: &mut Draw, text: &mut Vec<u8>, change: impl Fn(&mut Vec<Vec<u8>>, usize)) {
+/// Changes lines near a drawn one; each has its newline with it.
+pub fn lines(
+    draw: &mut Draw,
+    text: &mut Vec<u8>,
+    change: impl Fn(&mut Draw, &mut Vec<Vec<u8>>, usize),
+) {
     let mut list: Vec<Vec<u8>> = text
         .split_inclusive(|byte| *byte == b'\n')
         .map(<[u8]>::to_vec)
         .collect();
     if !list.is_empty() {
         let n = draw.below(list.len() as u64) as usize;
-        change(&mut list, n);
+        change(draw, &mut list, n);
     }
     *text = list.concat();
 }

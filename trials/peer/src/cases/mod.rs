@@ -1,21 +1,43 @@
-//! Case sheets made from seeds: a kind and a seed name one sheet for ever.
+//! Texts made from seeds: a kind and a seed name one text for ever. The first
+//! three kinds are case sheets; then come texts for the assembler, good and
+//! damaged, and for the lister.
 
 mod build;
+mod cal;
+mod cal_damaged;
 mod damaged;
 mod draw;
+mod octal;
 mod parts;
 mod random;
 mod sweep;
 
-/// The names of the kinds.
-pub const KINDS: [&str; 3] = ["random", "sweep", "damaged"];
+pub use cal_damaged::{LATER, REFUSED};
 
-/// The text of sheet number `seed` of a kind, if there is such a kind.
-pub fn sheet(kind: &str, seed: u64) -> Option<Vec<u8>> {
-    match kind {
-        "random" => Some(random::sheet(seed)),
-        "sweep" => Some(sweep::sheet(seed)),
-        "damaged" => Some(damaged::sheet(seed)),
-        _ => None,
-    }
+pub struct Kind {
+    pub name: &'static str,
+    /// What the names of its files end in.
+    pub ending: &'static str,
+    /// The text of a seed.
+    pub text: fn(u64) -> Vec<u8>,
+}
+
+#[rustfmt::skip]
+pub const KINDS: [Kind; 6] = [
+    Kind { name: "random", ending: "sheet", text: random::sheet },
+    Kind { name: "sweep", ending: "sheet", text: sweep::sheet },
+    Kind { name: "damaged", ending: "sheet", text: damaged::sheet },
+    Kind { name: "cal", ending: "cal", text: cal::text },
+    Kind { name: "cal-damaged", ending: "cal", text: cal_damaged::text },
+    Kind { name: "octal", ending: "octal", text: octal::text },
+];
+
+/// The kind of a name, if there is such a kind.
+pub fn kind(name: &str) -> Option<&'static Kind> {
+    KINDS.iter().find(|kind| kind.name == name)
+}
+
+/// The text of a kind's seed, if there is such a kind.
+pub fn text(name: &str, seed: u64) -> Option<Vec<u8>> {
+    kind(name).map(|kind| (kind.text)(seed))
 }

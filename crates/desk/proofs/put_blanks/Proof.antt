@@ -1,0 +1,61 @@
+use mathlib.Core.Path.{_≡_, refl, _∙_}
+use mathlib.Core.List.{List}
+use Prim.Native.Nat.{ℕ, _+_, _-_, _≤_}
+use native.Mathlib.Nat.{add-zero, sub-zero}
+use native.Mathlib.Omega.{arith}
+use lib.ListN.{length}
+use Rattle.text.specs.Report.{Wrote}
+use Rattle.desk.specs.Desk.{blanks}
+use Rattle.desk.proofs.Columns.{blanks-next, blanks-done}
+use borrow.Author.Needs.{needs}
+use Rattle.desk.proofs.put_blanks.Statement.{statement}
+use Rattle.desk.proofs.put_blanks.Tie as tie
+
+abbrev Inv-loop : tie.InvT-loop
+Inv-loop out₀ at n i₀ out i = (i ≤ n) × (length out ≡ length out₀) × ((m : List ℕ) (q : ℕ) → Wrote out (at + i) (blanks (n - i)) m q → Wrote out₀ at (blanks n) m q)
+
+abbrev μ-loop : tie.MeasureT-loop
+μ-loop out₀ at n i₀ out i = n - i
+
+loop-holds : tie.Need-loop-holds Inv-loop μ-loop
+loop-holds c = (omega arith, refl, λ m q w. simp (add-zero, sub-zero) at w)
+
+add-put-byte : tie.Need-add-put-byte Inv-loop μ-loop
+add-put-byte c = omega arith
+
+put-byte-requires : tie.Need-put-byte-requires Inv-loop μ-loop
+put-byte-requires c κs = search needs
+
+add-i : tie.Need-add-i Inv-loop μ-loop
+add-i c = omega arith
+
+loop-less : tie.Need-loop-less Inv-loop μ-loop
+loop-less c = omega arith
+
+loop-again : tie.Need-loop-again Inv-loop μ-loop
+loop-again c = (omega arith, c .before .before .put-byte .kept .0 ∙ c .before .before .before .before .before .loop .inv .1, λ m q w. c .before .before .before .before .before .loop .inv .2 m q (blanks-next _ _ _ (c .before .before .before .before .loop-test .taken) (c .before .before .put-byte .ensures) w))
+
+add-result : tie.Need-add-result Inv-loop μ-loop
+add-result c = omega arith
+
+same-length : tie.Need-same-length Inv-loop μ-loop
+same-length c = c .before .loop .inv .1
+
+returns : tie.Need-returns Inv-loop μ-loop
+returns c = (c .before .loop .inv .2 _ _ (blanks-done _ _ _ _ (c .loop-test .left)), omega arith)
+
+pub put-blanks-spec : {M : Type 1} → statement M
+put-blanks-spec =
+    tie.close
+    (tie.spec
+    Inv-loop
+    μ-loop
+    loop-holds
+    add-put-byte
+    put-byte-requires
+    add-i
+    loop-less
+    loop-again
+    add-result
+    same-length
+    returns)

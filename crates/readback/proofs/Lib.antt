@@ -1,0 +1,11 @@
+pub mod Shape
+pub mod Finite
+pub mod Found
+pub mod Digits
+pub mod Scanned
+pub mod Guessed
+pub mod Stands
+pub mod Good
+pub mod Whole
+pub mod Examples
+pub mod Theorems

@@ -1,0 +1,280 @@
+-- An instruction made from a row spells the line of its parcels, and no line has more than 16 bytes. Assumes nothing.
+use Prim.Native.Nat.{ℕ, zero, suc, _+_, _-_, _/_, _%_, _^_, _≤_, _<_}
+use mathlib.Core.Path.{_≡_, refl, sym, _∙_, ap}
+use mathlib.Core.Bool.{Bool, true, false, _&&_, not}
+use mathlib.Core.List.{List, [], _∷_, _++_, append-assoc}
+use native.Mathlib.Nat.{zero-add, add-zero}
+use native.Mathlib.Omega.{arith}
+use lib.ListN.{length, getD, length-append}
+use lib.Dec.{eqb, ltb, leb}
+use borrow.Author.Tests.{eqb-true, eqb-false, leb-true, not-true}
+use Rattle.machine.specs.Word.{pick}
+use Rattle.machine.specs.Codes.{codeOf, code001, code002}
+use Rattle.text.specs.Digits.{digits, shown}
+use Rattle.text.proofs.Writing.{digits-length}
+use Rattle.text.proofs.Length.{shown-most}
+use Rattle.spelling.specs.Words.{fieldOf, operandOf, operandText, wordText, textOf, signs}
+use Rattle.spelling.specs.Spelling.{passing, spelling, wordsOf}
+use Rattle.spelling.specs.Listing.{dataLine, lineWith, lineOf}
+use Rattle.spelling.specs.Rows.{rowWords, rowOf, operandsIn, codeAt, withCodes, instructionOf, rowIn, operandIn, nth, spelledFrom, spelledOf}
+use Rattle.spelling.specs.declared.Operand.{Operand}
+use Rattle.spelling.specs.declared.Operand.the-variants.{Register, Constant, Indexed}
+use Rattle.spelling.specs.declared.Instruction.{Instruction}
+use Rattle.spelling.specs.declared.Instruction.the-variants.{Bare, OfOne, OfTwo, OfThree, OfFour}
+use Rattle.spelling.proofs.Entries.{both-hold, every, every-at}
+use Rattle.spelling.proofs.Table.{alike, alike-eq, words-of-row}
+
+-- an instruction's operands --
+
+pub nonzero : List ℕ → Bool
+nonzero [] = true
+nonzero (a ∷ l) = not (eqb a 0) && nonzero l
+
+-- instructions made of at most four codes hold their operands in order
+module _ (r x m : ℕ) where
+  made : List ℕ → Instruction
+  made l = withCodes r (getD l 0 0) (getD l 1 0) (getD l 2 0) (getD l 3 0) x m
+
+  operandsOf : List ℕ → List Operand
+  operandsOf [] = []
+  operandsOf (a ∷ l) = operandOf a x m ∷ operandsOf l
+
+  first-is : (a : ℕ) (l : List ℕ) → nonzero (a ∷ l) ≡ true → (eqb a 0 ≡ false) × (nonzero l ≡ true)
+  unfolding nonzero
+  first-is a l e = let t = both-hold (not (eqb a 0)) (nonzero l) e in (not-true (eqb a 0) (t .0), t .1)
+
+  -- the operand n of a list
+  chosen-is : (l : List ℕ) (n : ℕ) → n < length l → nth (operandsOf l) n ≡ operandOf (getD l n 0) x m
+  unfolding operandsOf
+  chosen-is [] n h = absurd (omega arith)
+  chosen-is (a ∷ l) zero h = refl
+  chosen-is (a ∷ l) (suc n) h = chosen-is l n (omega arith)
+
+  operand-made : (l : List ℕ) (n : ℕ) → nonzero l ≡ true → length l ≤ 4 → n < length l → operandIn (made l) n ≡ operandOf (getD l n 0) x m
+  unfolding made withCodes operandIn operandsOf
+  operand-made [] n e few h = absurd (omega arith)
+  operand-made (a ∷ []) n e few h =
+      let s = first-is a [] e in
+      rw (s .0) (chosen-is (a ∷ []) n h)
+  operand-made (a ∷ b ∷ []) n e few h =
+      let s = first-is a (b ∷ []) e in
+      let t = first-is b [] (s .1) in
+      rw (s .0, t .0) (chosen-is (a ∷ b ∷ []) n h)
+  operand-made (a ∷ b ∷ c ∷ []) n e few h =
+      let s = first-is a (b ∷ c ∷ []) e in
+      let t = first-is b (c ∷ []) (s .1) in
+      let u = first-is c [] (t .1) in
+      rw (s .0, t .0, u .0) (chosen-is (a ∷ b ∷ c ∷ []) n h)
+  operand-made (a ∷ b ∷ c ∷ d ∷ []) n e few h =
+      let s = first-is a (b ∷ c ∷ d ∷ []) e in
+      let t = first-is b (c ∷ d ∷ []) (s .1) in
+      let u = first-is c (d ∷ []) (t .1) in
+      let v = first-is d [] (u .1) in
+      rw (s .0, t .0, u .0, v .0) (chosen-is (a ∷ b ∷ c ∷ d ∷ []) n h)
+  operand-made (a ∷ b ∷ c ∷ d ∷ f ∷ l) n e few h = absurd (omega arith)
+
+-- its text: words and the operands that stand for them
+module _ (x m : ℕ) (ins : Instruction) where
+  text-spelled : (ws : List ℕ) (t : ℕ) → ((n : ℕ) → n < length (operandsIn ws) → operandIn ins (t + n) ≡ operandOf (getD (operandsIn ws) n 0) x m)
+      → spelledFrom ws ins t ≡ textOf ws x m ++ (10 ∷ [])
+  unfolding spelledFrom textOf operandsIn
+  text-spelled [] t held = refl
+  text-spelled (w ∷ ws) t held = go (ltb w 128) refl (text-spelled ws) held
+    where
+      go : (b : Bool) → ltb w 128 ≡ b
+          → ((t : ℕ) → ((n : ℕ) → n < length (operandsIn ws) → operandIn ins (t + n) ≡ operandOf (getD (operandsIn ws) n 0) x m) → spelledFrom ws ins t ≡ textOf ws x m ++ (10 ∷ []))
+          → ((n : ℕ) → n < length (pick b (operandsIn ws) ((w - 128) ∷ operandsIn ws)) → operandIn ins (t + n) ≡ operandOf (getD (pick b (operandsIn ws) ((w - 128) ∷ operandsIn ws)) n 0) x m)
+          → pick b (w ∷ spelledFrom ws ins t) (operandText (operandIn ins t) ++ spelledFrom ws ins (t + 1))
+          ≡ (pick b (w ∷ []) (operandText (operandOf (w - 128) x m)) ++ textOf ws x m) ++ (10 ∷ [])
+      go true e more held = ap (λ (l : List ℕ). w ∷ l) (more t held)
+      go false e more held =
+          let here : operandIn ins t ≡ operandOf (w - 128) x m = ap (operandIn ins) (sym (add-zero t)) ∙ held 0 (omega arith) in
+          let next : (n : ℕ) → n < length (operandsIn ws) → operandIn ins (t + 1 + n) ≡ operandOf (getD (operandsIn ws) n 0) x m =
+          λ n h. ap (operandIn ins) (step n) ∙ held (suc n) (omega arith) in
+          rw (here, more (t + 1) next) (sym (append-assoc (operandText (operandOf (w - 128) x m)) (textOf ws x m) (10 ∷ [])))
+        where
+          step : (n : ℕ) → t + 1 + n ≡ t + suc n
+          step n = omega arith
+
+-- of each row the words are few, the operands at most four, none with the code 0, and at least one is a sign
+pub signsIn : List ℕ → ℕ
+signsIn [] = 0
+signsIn (w ∷ ws) = pick (ltb w 128) (suc (signsIn ws)) (signsIn ws)
+
+-- how long the text of an operand, of a word and of words can be
+fieldMost : ℕ → ℕ
+fieldMost f = getD (1 ∷ 1 ∷ 1 ∷ 1 ∷ 1 ∷ 2 ∷ 8 ∷ 8 ∷ []) f 1
+
+operandMost : ℕ → ℕ
+operandMost c =
+    pick (eqb (c / 8) 0) (fieldMost (c % 8))
+    (pick (eqb (c / 8) 1) (fieldMost (c % 8) + 3)
+    (pick (eqb (c / 8) 2) 3
+    (1 + pick (eqb (c % 8) 5) 2 1)))
+
+pub textMost : List ℕ → ℕ
+textMost [] = 0
+textMost (w ∷ ws) = pick (ltb w 128) 1 (operandMost (w - 128)) + textMost ws
+
+abbrev goodRow : ℕ → Bool
+goodRow r =
+    let ws = rowWords r in
+    nonzero (operandsIn ws)
+    && (leb (length (operandsIn ws)) 4 && (leb (textMost ws) 15 && (leb (length ws) 10 && alike (eqb r 0) (eqb (signsIn ws) 0))))
+
+good-rows : every goodRow 107 ≡ true
+unfolding every nonzero operandsIn textMost operandMost fieldMost signsIn rowWords wordsOf codeOf code001 code002 spelling passing alike
+good-rows = refl
+
+-- it keeps its row
+pub row-made : (r x m : ℕ) → rowIn (instructionOf r x m) ≡ r
+unfolding instructionOf withCodes rowIn
+row-made r x m =
+    go (eqb (codeAt r 0) 0) (eqb (codeAt r 1) 0) (eqb (codeAt r 2) 0) (eqb (codeAt r 3) 0)
+    (operandOf (codeAt r 0) x m) (operandOf (codeAt r 1) x m) (operandOf (codeAt r 2) x m) (operandOf (codeAt r 3) x m)
+  where
+    go : (a b c d : Bool) (p q s t : Operand) → rowIn (pick a (Bare r) (pick b (OfOne r p) (pick c (OfTwo r p q) (pick d (OfThree r p q s) (OfFour r p q s t))))) ≡ r
+    go true b c d p q s t = refl
+    go false true c d p q s t = refl
+    go false false true d p q s t = refl
+    go false false false true p q s t = refl
+    go false false false false p q s t = refl
+
+-- what is so of a row
+pub record Row (r : ℕ) : Type 0 where
+  pub codes : nonzero (operandsIn (rowWords r)) ≡ true
+  pub four : length (operandsIn (rowWords r)) ≤ 4
+  pub fifteen : textMost (rowWords r) ≤ 15
+  pub ten : length (rowWords r) ≤ 10
+  pub none : eqb r 0 ≡ eqb (signsIn (rowWords r)) 0
+
+pub row-is : (r : ℕ) → r < 107 → Row r
+row-is r h =
+    let ws = rowWords r in
+    let s = both-hold (nonzero (operandsIn ws)) _ (every-at goodRow 107 good-rows r h) in
+    let t = both-hold (leb (length (operandsIn ws)) 4) _ (s .1) in
+    let u = both-hold (leb (textMost ws) 15) _ (t .1) in
+    let v = both-hold (leb (length ws) 10) _ (u .1) in
+    record {
+      codes = s .0;
+      four = leb-true _ _ (t .0);
+      fifteen = leb-true _ _ (u .0);
+      ten = leb-true _ _ (v .0);
+      none = alike-eq _ _ (v .1);
+    }
+
+-- an instruction of a row spells the row's words
+pub spelled-row : (r x m : ℕ) → r < 107 → spelledOf (instructionOf r x m) ≡ textOf (rowWords r) x m ++ (10 ∷ [])
+unfolding spelledOf instructionOf codeAt made
+spelled-row r x m h =
+    rw (row-made r x m)
+    (text-spelled x m (instructionOf r x m) (rowWords r) 0
+    (λ n l. ap (operandIn (instructionOf r x m)) (zero-add n) ∙ operand-made r x m (operandsIn (rowWords r)) n (row-is r h .codes) (row-is r h .four) l))
+
+-- how long lines are --
+
+field-most : (f x m : ℕ) → m < 65536 → (0 < fieldMost f) × (fieldOf f x m < 8 ^ fieldMost f)
+unfolding fieldMost
+field-most zero x m h = (omega arith, omega arith)
+field-most (suc zero) x m h = (omega arith, omega arith)
+field-most (suc (suc zero)) x m h = (omega arith, omega arith)
+field-most (suc (suc (suc zero))) x m h = (omega arith, omega arith)
+field-most (suc (suc (suc (suc zero)))) x m h = (omega arith, omega arith)
+field-most (suc (suc (suc (suc (suc zero))))) x m h = (omega arith, omega arith)
+field-most (suc (suc (suc (suc (suc (suc zero)))))) x m h = (omega arith, omega arith)
+field-most (suc (suc (suc (suc (suc (suc (suc zero))))))) x m h = (omega arith, omega arith)
+field-most (suc (suc (suc (suc (suc (suc (suc (suc f)))))))) x m h = (omega arith, omega arith)
+
+-- an octal number below 8 ^ k has at most k digits
+octal-most : (n k : ℕ) → 0 < k → n < 8 ^ k → length (shown 8 1 n) ≤ k
+octal-most n zero some h = absurd (omega arith)
+octal-most n (suc k) some h = shown-most 8 (omega arith) 1 n k h (omega arith)
+
+-- the text of an operand, of a word and of words
+operand-most : (c x m : ℕ) → m < 65536 → length (operandText (operandOf c x m)) ≤ operandMost c
+unfolding operandText operandOf operandMost
+operand-most c x m h = go (eqb (c / 8) 0) (eqb (c / 8) 1) (eqb (c / 8) 2)
+  where
+    number : length (shown 8 1 (fieldOf (c % 8) x m)) ≤ fieldMost (c % 8)
+    number = let field = field-most (c % 8) x m h in octal-most _ _ (field .0) (field .1)
+
+    go : (a b d : Bool)
+        → length (operandText (pick a (Constant (fieldOf (c % 8) x m)) (pick b (Indexed (fieldOf (c % 8) x m) (x / 512 % 8)) (pick d (Constant (64 - fieldOf (c % 8) x m)) (Register (c / 8) (fieldOf (c % 8) x m) (eqb (c % 8) 5))))))
+        ≤ pick a (fieldMost (c % 8)) (pick b (fieldMost (c % 8) + 3) (pick d 3 (1 + pick (eqb (c % 8) 5) 2 1)))
+    go true b d = number
+    go false true d =
+        let digit : length (shown 8 1 (x / 512 % 8)) ≤ 1 = octal-most _ 1 (omega arith) (omega arith) in
+        rw (length-append (shown 8 1 (fieldOf (c % 8) x m)) (44 ∷ 65 ∷ shown 8 1 (x / 512 % 8))) (omega (arith, number, digit))
+    go false false true = octal-most _ 3 (omega arith) (omega arith)
+    go false false false = rw (digits-length 8 (pick (eqb (c % 8) 5) 2 1) (fieldOf (c % 8) x m)) (omega arith)
+
+text-most : (ws : List ℕ) (x m : ℕ) → m < 65536 → length (textOf ws x m) ≤ textMost ws
+unfolding textOf textMost
+text-most [] x m h = omega arith
+text-most (w ∷ ws) x m h =
+    rw (length-append (wordText w x m) (textOf ws x m)) (go (ltb w 128) (text-most ws x m h) (operand-most (w - 128) x m h))
+  where
+    go : (b : Bool) → length (textOf ws x m) ≤ textMost ws → length (operandText (operandOf (w - 128) x m)) ≤ operandMost (w - 128)
+        → length (pick b (w ∷ []) (operandText (operandOf (w - 128) x m))) + length (textOf ws x m) ≤ pick b 1 (operandMost (w - 128)) + textMost ws
+    go true more here = omega arith
+    go false more here = omega arith
+
+-- each sign is a byte
+text-least : (ws : List ℕ) (x m : ℕ) → signsIn ws ≤ length (textOf ws x m)
+unfolding textOf signsIn
+text-least [] x m = omega arith
+text-least (w ∷ ws) x m = rw (length-append (wordText w x m) (textOf ws x m)) (go (ltb w 128) (text-least ws x m))
+  where
+    go : (b : Bool) → signsIn ws ≤ length (textOf ws x m)
+        → pick b (suc (signsIn ws)) (signsIn ws) ≤ length (pick b (w ∷ []) (operandText (operandOf (w - 128) x m))) + length (textOf ws x m)
+    go true more = omega arith
+    go false more = omega arith
+
+-- the line of an instruction --
+
+pub data-length : (x : ℕ) → length (dataLine x) ≡ 12
+unfolding dataLine
+data-length x =
+    length-append (signs "data=") (digits 8 6 x ++ (10 ∷ []))
+    ∙ ap (λ (n : ℕ). 5 + n) (length-append (digits 8 6 x) (10 ∷ []) ∙ ap (λ (n : ℕ). n + 1) (digits-length 8 6 x))
+
+-- row 0 is the one without words
+no-words : (r : ℕ) → r < 107 → (eqb r 0 ≡ true → rowWords r ≡ []) × (eqb r 0 ≡ false → 0 < signsIn (rowWords r))
+unfolding rowWords wordsOf codeOf spelling
+no-words r h = ((λ e. none-of e), λ e. some-of e)
+  where
+    none-of : eqb r 0 ≡ true → rowWords r ≡ []
+    none-of e = rw (eqb-true r 0 e)
+
+    some-of : eqb r 0 ≡ false → 0 < signsIn (rowWords r)
+    some-of e = let n = eqb-false (signsIn (rowWords r)) 0 (sym (row-is r h .none) ∙ e) in omega (arith, n)
+
+-- words with a sign among them are some
+with-words : (ws : List ℕ) (x m : ℕ) → 0 < signsIn ws → lineWith ws x m ≡ textOf ws x m ++ (10 ∷ [])
+unfolding signsIn
+with-words [] x m h = absurd (omega arith)
+with-words (w ∷ ws) x m h = refl
+
+module _ (x m : ℕ) (h : x < 65536) (low : rowOf x < 107) where
+  pub line-of-none : eqb (rowOf x) 0 ≡ true → lineOf x m ≡ dataLine x
+  unfolding lineOf
+  line-of-none e = rw (words-of-row x h, no-words (rowOf x) low .0 e)
+
+  pub line-of-some : eqb (rowOf x) 0 ≡ false → lineOf x m ≡ spelledOf (instructionOf (rowOf x) x m)
+  unfolding lineOf
+  line-of-some e =
+      rw (words-of-row x h) (with-words (rowWords (rowOf x)) x m (no-words (rowOf x) low .1 e) ∙ sym (spelled-row (rowOf x) x m low))
+
+  pub line-most : m < 65536 → (2 ≤ length (lineOf x m)) × (length (lineOf x m) ≤ 16)
+  line-most l = go (eqb (rowOf x) 0) refl
+    where
+      go : (b : Bool) → eqb (rowOf x) 0 ≡ b → (2 ≤ length (lineOf x m)) × (length (lineOf x m) ≤ 16)
+      go true e = let n = ap length (line-of-none e) ∙ data-length x in (omega arith, omega arith)
+      go false e =
+          let r = rowOf x in
+          let n = ap length (line-of-some e ∙ spelled-row r x m low) ∙ length-append (textOf (rowWords r) x m) (10 ∷ []) in
+          let some = no-words r low .1 e in
+          let least = text-least (rowWords r) x m in
+          let most = text-most (rowWords r) x m l in
+          let fifteen = row-is r low .fifteen in
+          (omega (arith, n, some, least), omega (arith, n, most, fifteen))
