@@ -1,5 +1,5 @@
 -- Laws of a parcel's row, of the tables of forms and operands, and of an operand's text. Assumes nothing.
-use mathlib.Core.Path.{_≡_, refl, sym, ap, _∙_}
+use mathlib.Core.Path.{_≡_, refl, _∙_}
 use mathlib.Core.Bool.{Bool, true}
 use mathlib.Core.List.{List, [], _∷_, _++_}
 use Prim.Native.Nat.{ℕ, zero, suc, _+_, _*_, _/_, _%_, _≤_, _<_}
@@ -12,7 +12,7 @@ use Rattle.machine.specs.Word.{pick}
 use Rattle.machine.specs.Codes.{codeOf, code001, code002}
 use Rattle.text.specs.Digits.{digits}
 use Rattle.text.specs.Report.{Wrote}
-use Rattle.text.proofs.Writing.{then, wrote-byte, digits-length}
+use Rattle.text.proofs.Writing.{then, wrote-byte, wrote-digits}
 use Rattle.spelling.specs.Words.{operandText}
 use Rattle.spelling.specs.Spelling.{passing, spelling, wordsOf}
 use Rattle.spelling.specs.Rows.{rowWords, within, row0014, row001, row002, row023, plainRows, rowBy, rowOf, formAt, operandsIn, codeAt, nth, operandIn, formTable, operandTable}
@@ -127,9 +127,6 @@ filled-two r t a b = filled (a ∷ b ∷ Constant 0 ∷ []) (Constant 0) t ∙ f
 pub filled-one : (r t : ℕ) (a : Operand) → nth (a ∷ Constant 0 ∷ Constant 0 ∷ Constant 0 ∷ []) t ≡ operandIn (OfOne r a) t
 unfolding operandIn
 filled-one r t a = filled (a ∷ Constant 0 ∷ Constant 0 ∷ []) (Constant 0) t ∙ filled (a ∷ Constant 0 ∷ []) (Constant 0) t ∙ filled (a ∷ []) (Constant 0) t
-
-pub wrote-digits : {d m : List ℕ} {at : ℕ} (b k n : ℕ) → m ≡ sets d at (digits b k n) → Wrote d at (digits b k n) m (at + k)
-wrote-digits {d} {m} {at} b k n e = record { bytes = e; place = ap (λ (i : ℕ). at + i) (sym (digits-length b k n)) }
 
 -- a register's name: its letter, then its digits
 pub wrote-register : {d m k : List ℕ} {at : ℕ} (letter number : ℕ) (wide : Bool) {n : ℕ} → n ≡ pick wide 2 1

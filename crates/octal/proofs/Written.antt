@@ -1,20 +1,15 @@
 -- Laws of the text that is written. Assumes nothing.
-use mathlib.Core.Path.{_≡_, sym, ap, subst}
+use mathlib.Core.Path.{_≡_, subst}
 use mathlib.Core.List.{List, [], _++_}
 use Prim.Native.Nat.{ℕ, _+_, _*_, _-_, _≤_, _<_}
 use native.Mathlib.Numerals.{add-one}
 use native.Mathlib.Omega.{arith}
 use lib.ListN.{length, getD, drop}
-use lib.Seq.{sets, drop-cons, drop-length}
-use Rattle.text.specs.Digits.{digits}
+use lib.Seq.{drop-cons, drop-length}
 use Rattle.text.specs.Report.{Wrote}
 use Rattle.text.proofs.Reading.{left-suc}
-use Rattle.text.proofs.Writing.{digits-length}
 use Rattle.octal.specs.Lines.{parcelText, parcelsText}
 use Rattle.octal.specs.Words.{wordAt, wordText, wordsFrom}
-
-pub wrote-digits : {d m : List ℕ} {at : ℕ} (b k n : ℕ) → m ≡ sets d at (digits b k n) → Wrote d at (digits b k n) m (at + k)
-wrote-digits {d} {m} {at} b k n e = record { bytes = e; place = ap (λ (l : ℕ). at + l) (sym (digits-length b k n)) }
 
 -- the place after a text is known by another name
 pub wrote-to : {d m xs : List ℕ} {at r q : ℕ} → r ≡ q → Wrote d at xs m r → Wrote d at xs m q

@@ -168,7 +168,7 @@ pub fn read(text: &[u8], room: &mut [u16]) -> Reading
 // its text all the same.
 
 // A parcel.
-pub fn put_parcel(out: &mut [u8], at: usize, p: u16) -> usize
+fn put_parcel(out: &mut [u8], at: usize, p: u16) -> usize
     requires { ⌜ at ≤ 900000000 ⌝ }
     ensures { λ r. ⌜ Wrote (now (out .entry)) at (parcelText p) (now (out .exit)) r × (r ≡ at + 7) ⌝ }
 {
@@ -177,7 +177,7 @@ pub fn put_parcel(out: &mut [u8], at: usize, p: u16) -> usize
     at + 7
 }
 
-// All of them, from the start of out on.
+// All of them, from the start of out on: at most as many as the machine has addresses for, so that every place is a usize.
 pub fn put_parcels(parcels: &[u16], out: &mut [u8]) -> usize
     requires { ⌜ length (now parcels) ≤ 16777216 ⌝ }
     ensures { λ r. ⌜ Wrote (now (out .entry)) 0 (parcelsText (now (parcels .entry))) (now (out .exit)) r ⌝ }
@@ -228,10 +228,9 @@ fn put_word(out: &mut [u8], at: usize, address: u64, word: u64) -> usize
 
 // How many words so many parcels take.
 pub fn words_for(n: usize) -> usize
-    requires { ⌜ n ≤ 16777216 ⌝ }
     ensures { λ r. ⌜ r ≡ (n + 3) / 4 ⌝ }
 {
-    (n + 3) / 4
+    if n % 4 == 0 { n / 4 } else { n / 4 + 1 }
 }
 
 // Parcels as words from an address on, from the start of out on.

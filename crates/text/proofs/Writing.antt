@@ -59,6 +59,10 @@ unfolding digits
 digits-length b zero n = refl
 digits-length b (suc k) n = length-append (digits b k (n / b)) (glyphOf (n % b) ∷ []) ∙ ap (λ (m : ℕ). m + 1) (digits-length b k (n / b)) ∙ add-one k
 
+-- digits stored are digits written
+pub wrote-digits : {d m : List ℕ} {at : ℕ} (b k n : ℕ) → m ≡ sets d at (digits b k n) → Wrote d at (digits b k n) m (at + k)
+wrote-digits {d} {m} {at} b k n e = record { bytes = e; place = ap (λ (i : ℕ). at + i) (sym (digits-length b k n)) }
+
 -- digits stored from the right: one more, and none left
 pub digits-next : (l : List ℕ) (at b i rest : ℕ) → 0 < i → sets l at (digits b i rest) ≡ sets (set l (at + (i - 1)) (glyphOf (rest % b))) at (digits b (i - 1) (rest / b))
 unfolding digits

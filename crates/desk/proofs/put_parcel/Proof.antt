@@ -1,5 +1,5 @@
 use mathlib.Core.Path.{refl}
-use Rattle.octal.proofs.Written.{wrote-digits}
+use Rattle.text.proofs.Writing.{wrote-digits}
 use borrow.Author.Needs.{needs}
 use Rattle.desk.proofs.put_parcel.Statement.{statement}
 use Rattle.desk.proofs.put_parcel.Tie as tie

@@ -1,7 +1,6 @@
 use native.Mathlib.Omega.{arith}
-use Rattle.text.proofs.Writing.{then}
+use Rattle.text.proofs.Writing.{then, wrote-digits}
 use Rattle.spelling.specs.Listing.{dataLine}
-use Rattle.line.proofs.Laws.{wrote-digits}
 use borrow.Author.Needs.{needs}
 use Rattle.line.proofs.put_data.Statement.{statement}
 use Rattle.line.proofs.put_data.Tie as tie

@@ -1,7 +1,7 @@
 use mathlib.Core.Path.{refl}
 use native.Mathlib.Omega.{arith}
-use Rattle.text.proofs.Writing.{then, wrote-byte}
-use Rattle.octal.proofs.Written.{wrote-digits, wrote-to}
+use Rattle.text.proofs.Writing.{then, wrote-byte, wrote-digits}
+use Rattle.octal.proofs.Written.{wrote-to}
 use borrow.Author.Needs.{needs}
 use Rattle.octal.proofs.put_word.Statement.{statement}
 use Rattle.octal.proofs.put_word.Tie as tie
