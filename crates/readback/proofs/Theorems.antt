@@ -3,15 +3,22 @@
 use Prim.Native.Nat.{ℕ, _+_, _<_}
 use mathlib.Core.Path.{_≡_, refl, sym, ap, _∙_}
 use mathlib.Core.Logic.{_↔_}
-use mathlib.Core.Bool.{true, false}
+use mathlib.Core.Bool.{Bool, true, false}
 use mathlib.Core.List.{List, [], _∷_, _++_}
 use native.Mathlib.Omega.{arith}
-use lib.ListN.{length}
+use lib.ListN.{length, getD}
+use lib.Seq.{sets}
+use lib.Dec.{leb}
+use Rattle.machine.specs.Word.{pick}
 use Rattle.spelling.specs.Spelling.{wordsOf, second}
-use Rattle.spelling.specs.Listing.{dataLine, lineOf, listOf}
+use Rattle.spelling.specs.Listing.{dataLine, lineOf, listOf, listed, roomListed, listedNumbers}
 use Rattle.spelling.specs.Candidate.{lineLength, guessOf}
-use Rattle.spelling.specs.Assembling.{Good, Bad, readLine, All, Wrong, readOf}
+use Rattle.spelling.specs.Assembling.{Good, Bad, readLine, Reading, All, Wrong, readOf, assembledTo, roomAfter, assembled, roomAssembled, assembledNumbers}
 use Rattle.spelling.specs.declared.Guess.{Guess}
+use Rattle.spelling.specs.declared.Assembled.{Assembled}
+use Rattle.spelling.specs.declared.Assembled.the-variants.{Parcels, Overfull}
+use Rattle.spelling.specs.declared.Listed.{Listed}
+use Rattle.spelling.specs.declared.Listed.the-variants.{Bytes, TooLong}
 use Rattle.readback.proofs.Guessed.{line-first, line-two, line-spelled, data-first, data-data}
 use Rattle.readback.proofs.Stands.{Below, Stands, last, Broken}
 use Rattle.readback.proofs.Good.{good-stands, stands-good, bad-stands, none-bad, data-early}
@@ -77,3 +84,33 @@ pub text-wrong : (text : List ℕ) (n : ℕ) → (readOf text ≡ Wrong n) ↔ B
 unfolding readOf
 text-wrong text n =
     (wrong-broken (length text) text n (omega arith), λ b. broken-wrong (length text) (b .lines) (b .some) (none-bad (b .rest) (b .bad)) (omega arith))
+
+-- two results that a call may give are equal, with the room after it; and a refused call leaves the room as found
+module _ (text room : List ℕ) where
+  pub assembled-once : (r q : Assembled) (m n : List ℕ) → (r ≡ assembled text room) × (m ≡ roomAssembled text room)
+      → (q ≡ assembled text room) × (n ≡ roomAssembled text room) → (r ≡ q) × (m ≡ n)
+  assembled-once r q m n a b = (a .0 ∙ sym (b .0), a .1 ∙ sym (b .1))
+
+  pub assembled-kept : (getD (assembledNumbers (assembled text room)) 0 0 ≡ 0 → ⊥) → roomAssembled text room ≡ room
+  unfolding assembled roomAssembled
+  assembled-kept refused = go (readOf text) refused
+    where
+      fits : (ps : List ℕ) (b : Bool) → (getD (assembledNumbers (pick b (Parcels (length ps)) Overfull)) 0 0 ≡ 0 → ⊥) → pick b (sets room 0 ps) room ≡ room
+      fits ps true h = absurd (h refl)
+      fits ps false h = refl
+      go : (r : Reading) → (getD (assembledNumbers (assembledTo room r)) 0 0 ≡ 0 → ⊥) → roomAfter room r ≡ room
+      go (All ps) h = fits ps (leb (length ps) (length room)) h
+      go (Wrong n) h = refl
+
+module _ (ps room : List ℕ) where
+  pub listed-once : (r q : Listed) (m n : List ℕ) → (r ≡ listed ps room) × (m ≡ roomListed ps room)
+      → (q ≡ listed ps room) × (n ≡ roomListed ps room) → (r ≡ q) × (m ≡ n)
+  listed-once r q m n a b = (a .0 ∙ sym (b .0), a .1 ∙ sym (b .1))
+
+  pub listed-kept : (getD (listedNumbers (listed ps room)) 0 0 ≡ 0 → ⊥) → roomListed ps room ≡ room
+  unfolding listed roomListed
+  listed-kept refused = go (leb (length (listOf ps)) (length room)) refused
+    where
+      go : (b : Bool) → (getD (listedNumbers (pick b (Bytes (length (listOf ps))) TooLong)) 0 0 ≡ 0 → ⊥) → pick b (sets room 0 (listOf ps)) room ≡ room
+      go true h = absurd (h refl)
+      go false h = refl
