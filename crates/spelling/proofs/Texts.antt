@@ -13,10 +13,9 @@ use Rattle.machine.specs.Codes.{codeOf, code001, code002}
 use Rattle.text.specs.Digits.{digits, shown, widthOf, glyphOf}
 use Rattle.spelling.specs.Words.{signs, fieldOf, operandOf, operandText, wordText, textOf}
 use Rattle.spelling.specs.Spelling.{passing, spelling, wordsOf, second}
-use Rattle.spelling.specs.Candidate.{lineLength, guessOf}
 use Rattle.spelling.specs.Listing.{dataLine, lineOf, listOf, firstLine, parcelsIn}
 use Rattle.spelling.specs.Rows.{rowWords, rowOf}
-use Rattle.spelling.specs.Assembling.{begins, Line, Good, Bad, lineIs, ifLast, lineBy, parcelsOf, Reading, All, Wrong, before, readLine, readFrom}
+use Rattle.spelling.specs.Assembling.{begins, Good, Bad, lineLength, Reading, All, Wrong, before, readLine, readFrom}
 use Rattle.spelling.specs.declared.Operand.the-variants.{Register, Constant, Indexed}
 use Rattle.spelling.proofs.Entries.{both-hold, every, every-at}
 use Rattle.spelling.proofs.Lines.{data-length, line-most, line-of-none, line-of-some, spelled-row}
@@ -206,42 +205,3 @@ line-ends x m rest h low = go (eqb (rowOf x) 0) refl
         let r = rowOf x in
         rw (line-of-some x m h low e, spelled-row r x m low)
         (ends-line (textOf (rowWords r) x m) rest (quiet-text (rowWords r) x m (every-at (λ r. quietWords (rowWords r)) 107 all-quiet r low)))
-
--- what is guessed right is read: the parcels, and the text after the first newline
-module _ (s ps rest : List ℕ) where
-  line-read : (line qs : List ℕ) → ((t : List ℕ) → suc (lineLength (line ++ t)) ≡ length line) → lineIs s line qs ≡ Good ps rest
-      → (ps ≡ qs) × (rest ≡ drop (suc (lineLength s)) s) × (suc (lineLength s) ≤ length s)
-  unfolding lineIs
-  line-read line qs ends e = go (begins s line) refl e
-    where
-      go : (b : Bool) → begins s line ≡ b → pick b (Good qs (drop (length line) s)) Bad ≡ Good ps rest
-          → (ps ≡ qs) × (rest ≡ drop (suc (lineLength s)) s) × (suc (lineLength s) ≤ length s)
-      go true t f =
-          let whole = ap lineLength (begins-with s line t) in
-          let at-end : length line ≡ suc (lineLength s) = sym (ends (drop (length line) s)) ∙ ap suc (sym whole) in
-          let after : rest ≡ drop (length line) s = cc in
-          let fits = ap length (begins-with s line t) ∙ length-append line (drop (length line) s) in
-          ((cc), after ∙ ap (λ (n : ℕ). drop n s) at-end, omega (arith, at-end, fits))
-      go false t f = let z : _≡_ {A = ℕ} 0 1 = cc in absurd (omega arith)
-
-  last-read : (l : Line) → ifLast l ≡ Good ps rest → l ≡ Good ps rest
-  last-read (Good qs []) e = e
-  last-read (Good qs (b ∷ t)) e = let z : _≡_ {A = ℕ} 0 1 = cc in absurd (omega arith)
-  last-read Bad e = e
-
-  pub guess-read : guessOf s .first < 65536 → rowOf (guessOf s .first) < 107 → readLine s ≡ Good ps rest
-      → (ps ≡ parcelsOf (guessOf s)) × (rest ≡ drop (suc (lineLength s)) s) × (suc (lineLength s) ≤ length s)
-  unfolding readLine lineBy
-  guess-read h low e = go (second (guessOf s .first)) (guessOf s .as_data) e
-    where
-      x : ℕ
-      x = guessOf s .first
-
-      y : ℕ
-      y = guessOf s .second
-
-      go : (a b : Bool) → pick a (pick b (ifLast (lineIs s (dataLine x) (x ∷ []))) (lineIs s (lineOf x y) (x ∷ y ∷ []))) (lineIs s (lineOf x 0) (x ∷ [])) ≡ Good ps rest
-          → (ps ≡ pick a (pick b (x ∷ []) (x ∷ y ∷ [])) (x ∷ [])) × (rest ≡ drop (suc (lineLength s)) s) × (suc (lineLength s) ≤ length s)
-      go true true e = line-read (dataLine x) (x ∷ []) (data-ends x) (last-read (lineIs s (dataLine x) (x ∷ [])) e)
-      go true false e = line-read (lineOf x y) (x ∷ y ∷ []) (λ t. line-ends x y t h low) e
-      go false b e = line-read (lineOf x 0) (x ∷ []) (λ t. line-ends x 0 t h low) e

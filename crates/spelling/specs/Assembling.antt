@@ -8,8 +8,7 @@ use lib.Dec.{eqb, leb}
 use Rattle.machine.specs.Word.{pick}
 use Rattle.spelling.specs.Spelling.{second}
 use Rattle.spelling.specs.Listing.{dataLine, lineOf}
-use Rattle.spelling.specs.Candidate.{guessOf}
-use Rattle.spelling.specs.declared.Guess.{Guess}
+use Rattle.spelling.specs.Candidate.{Guess, guessOf}
 use Rattle.spelling.specs.declared.Assembled.{Assembled}
 use Rattle.spelling.specs.declared.Assembled.the-variants.{Parcels, BadLine, Overfull}
 
@@ -18,6 +17,11 @@ unfoldable pub begins : List ℕ → List ℕ → Bool
 begins s [] = true
 begins [] (b ∷ line) = false
 begins (c ∷ s) (b ∷ line) = eqb c b && begins s line
+
+-- how many bytes stand before its first newline
+unfoldable pub lineLength : List ℕ → ℕ
+lineLength [] = 0
+lineLength (b ∷ s) = pick (eqb b 10) 0 (suc (lineLength s))
 
 -- the first line of a text: the parcels that it stands for, and what follows it; or it is bad
 pub data Line : Type 0 where
@@ -38,12 +42,12 @@ ifLast Bad = Bad
 unfoldable pub lineBy : List ℕ → Guess → Line
 lineBy s g =
     pick (second (g .first))
-    (pick (g .as_data) (ifLast (lineIs s (dataLine (g .first)) (g .first ∷ []))) (lineIs s (lineOf (g .first) (g .second)) (g .first ∷ g .second ∷ [])))
+    (pick (g .two) (lineIs s (lineOf (g .first) (g .second)) (g .first ∷ g .second ∷ [])) (ifLast (lineIs s (dataLine (g .first)) (g .first ∷ []))))
     (lineIs s (lineOf (g .first) 0) (g .first ∷ []))
 
 -- the parcels of a guess
 abbrev pub parcelsOf : Guess → List ℕ
-parcelsOf g = pick (second (g .first)) (pick (g .as_data) (g .first ∷ []) (g .first ∷ g .second ∷ [])) (g .first ∷ [])
+parcelsOf g = pick (g .two) (g .first ∷ g .second ∷ []) (g .first ∷ [])
 
 unfoldable pub readLine : List ℕ → Line
 readLine s = lineBy s (guessOf s)

@@ -1,351 +1,285 @@
--- How the program guesses which parcels a line may stand for: by its signs, and the numbers between them. Nothing here has to
--- be believed: a guess is listed and compared with the line, and what is proved of it is that it finds every line that is listed.
--- Assumes nothing.
-use Prim.Native.Nat.{ℕ, suc, _+_, _-_, _*_, _/_, _%_, _^_}
-use mathlib.Core.Bool.{Bool, _&&_}
+-- How the program guesses which parcels a line may stand for: the signs at a few places tell the line's row, and the row tells
+-- where its digits stand. Nothing here has to be believed: a guess is listed and compared with the line, and what is proved of it
+-- is that it finds every line that is listed. Assumes nothing.
+use Prim.Native.Nat.{ℕ, zero, suc, _+_, _-_, _*_, _/_, _%_, _^_}
+use Prim.Native.String.{String}
+use mathlib.Core.Bool.{Bool, true, false, _&&_, _||_}
 use mathlib.Core.List.{List, [], _∷_}
-use lib.ListN.{getD, set}
+use lib.ListN.{getD}
 use lib.Dec.{eqb, ltb, leb}
+use Rattle.machine.specs.State.{bit}
 use Rattle.machine.specs.Word.{pick}
-use Rattle.spelling.specs.Rows.{table}
-use Rattle.spelling.specs.declared.Guess.{Guess}
+use Rattle.spelling.specs.Words.{signs}
+use Rattle.spelling.specs.Rows.{samples, rowWords, table}
 
--- a line read so far: a hash of its signs, how many numbers are ended, 1 where one is under way, its value, and the first four
-pub record Scan : Type 0 where
-  pub hash : ℕ
-  pub ended : ℕ
-  pub under : ℕ
+-- the bytes of a text by their places, newlines past its end
+abbrev pub bytesOf : List ℕ → ℕ → ℕ
+bytesOf s p = getD s p 10
+
+-- the row --
+
+-- questions that tell it: is the byte at a place this sign?
+pub data Tree : Type 0 where
+  row : ℕ → Tree
+  ask : ℕ → ℕ → Tree → Tree → Tree
+
+abbrev pub see : ℕ → String → Tree → Tree → Tree
+see p s then else = ask p (getD (signs s) 0 0) then else
+
+unfoldable pub told : Tree → (ℕ → ℕ) → ℕ
+told (row r) b = r
+told (ask p c then else) b =
+    let here = told then b in
+    let there = told else b in
+    pick (eqb (b p) c) here there
+
+-- of lines that begin with A, a digit and a blank; and so on by the first signs
+abbrev pub lineAA : Tree
+lineAA = see 5 "+" (row 46) (see 5 "-" (row 47) (row 48))
+
+abbrev pub lineA : Tree
+lineA =
+    see 3 "A" lineAA
+    (see 3 "S" (row 39)
+    (see 3 "V" (row 40)
+    (see 3 "B" (row 41)
+    (see 3 "P" (row 43)
+    (see 3 "Q" (row 44)
+    (see 3 "Z" (row 45)
+    (row 79)))))))
+
+abbrev pub lineSS : Tree
+lineSS =
+    see 5 "&" (row 57)
+    (see 5 "\\" (row 59)
+    (see 5 "!" (see 8 "&" (row 61) (row 62))
+    (see 5 "," (see 8 "<" (row 67) (row 68))
+    (see 5 "+" (row 69)
+    (see 5 "-" (row 70)
+    (row 74))))))
+
+abbrev pub lineS : Tree
+lineS =
+    see 3 "S" lineSS
+    (see 3 "A" (row 71)
+    (see 3 "+" (row 72)
+    (see 3 "V" (see 4 "M" (row 73) (row 77))
+    (see 3 "T" (row 75)
+    (see 3 "<" (row 55)
+    (see 3 ">" (row 56)
+    (see 3 "#" (see 6 "&" (row 58) (row 60))
+    (row 81))))))))
+
+abbrev pub lineVS : Tree
+lineVS =
+    see 5 "&" (row 83)
+    (see 5 "!" (see 8 "&" (row 89) (row 85))
+    (see 5 "\\" (row 87)
+    (see 5 "+" (row 95)
+    (row 97))))
+
+abbrev pub lineVV : Tree
+lineVV =
+    see 5 "&" (row 84)
+    (see 5 "!" (see 8 "&" (row 90) (row 86))
+    (see 5 "\\" (row 88)
+    (see 5 "<" (row 91)
+    (see 5 ">" (row 92)
+    (see 5 "," (see 8 "<" (row 93) (row 94))
+    (see 5 "+" (row 96)
+    (row 98)))))))
+
+abbrev pub lineVM : Tree
+lineVM = see 3 "S" (row 22) (see 6 "Z" (row 101) (see 6 "N" (row 102) (see 6 "P" (row 103) (row 104))))
+
+abbrev pub lineVi : Tree
+lineVi =
+    see 3 "S" lineVS
+    (see 3 "V" lineVV
+    (see 3 "P" (row 99)
+    (see 3 "Q" (row 100)
+    (see 3 "," (row 105)
+    (row 78)))))
+
+abbrev pub lineV : Tree
+lineV = see 1 "L" (row 16) (see 1 "M" lineVM lineVi)
+
+abbrev pub lineE : Tree
+lineE = see 1 "R" (see 2 "R" (row 1) (row 17)) (see 1 "C" (row 14) (see 1 "B" (row 20) (row 23)))
+
+abbrev pub lineC : Tree
+lineC = see 1 "A" (row 3) (see 1 "L" (see 2 "," (row 4) (row 11)) (see 1 "I" (row 5) (see 1 "C" (row 13) (row 21))))
+
+abbrev pub jumps : ℕ → Tree
+jumps r = see 2 "Z" (row r) (see 2 "N" (row (r + 1)) (see 2 "P" (row (r + 2)) (row (r + 3))))
+
+abbrev pub lineJ : Tree
+lineJ = see 1 "A" (jumps 27) (see 1 "S" (jumps 31) (see 2 "B" (row 24) (row 25)))
+
+abbrev pub lineD : Tree
+lineD = see 1 "C" (row 15) (see 1 "R" (row 18) (row 19))
+
+abbrev pub lineComma : Tree
+lineComma = see 3 "," (row 106) (see 4 "B" (row 50) (row 52))
+
+-- row 107 is a line of data
+abbrev pub lineSign : Tree
+lineSign =
+    see 0 "A" lineA
+    (see 0 "S" lineS
+    (see 0 "V" lineV
+    (see 0 "J" lineJ
+    (see 0 "B" (see 3 "," (row 49) (row 42))
+    (see 0 "T" (see 3 "," (row 51) (row 76))
+    (see 0 "," lineComma
+    (see 0 "C" lineC
+    (see 0 "D" lineD
+    (see 0 "E" lineE
+    (see 0 "I" (see 3 "1" (row 9) (row 10))
+    (see 0 "M" (row 6)
+    (see 0 "P" (see 1 "A" (row 2) (row 12))
+    (see 0 "R" (see 1 "T" (row 8) (row 26))
+    (see 0 "X" (row 7)
+    (row 107)))))))))))))))
+
+-- a number: octal digits from a place below 16 on, modulo 2^32, and the place after them
+pub record Numeral : Type 0 where
   pub value : ℕ
-  pub numbers : List ℕ
-
-abbrev pub begun : Scan
-begun = record { hash = 0; ended = 0; under = 0; value = 0; numbers = 0 ∷ 0 ∷ 0 ∷ 0 ∷ [] }
+  pub end : ℕ
 
 abbrev pub isOctal : ℕ → Bool
 isOctal b = leb 48 b && ltb b 56
 
--- a digit more
-abbrev pub valueAfter : ℕ → ℕ → ℕ
-valueAfter v b = (v * 8 + (b - 48)) % 2 ^ 32
+unfoldable pub numberFrom : ℕ → (ℕ → ℕ) → ℕ → ℕ → Numeral
+numberFrom zero b p v = record { value = v; end = p }
+numberFrom (suc left) b p v =
+    let more = numberFrom left b (p + 1) ((v * 8 + b p % 8) % 2 ^ 32) in
+    pick (isOctal (b p)) more (record { value = v; end = p })
 
-abbrev pub digitRead : Scan → ℕ → Scan
-digitRead st b =
-    record {
-      hash = st .hash;
-      ended = st .ended;
-      under = 1;
-      value = valueAfter (st .value) b;
-      numbers = set (st .numbers) (st .ended) (valueAfter (st .value) b);
-    }
+unfoldable pub numberAt : (ℕ → ℕ) → ℕ → Numeral
+numberAt b p = numberFrom (16 - p) b p 0
 
--- a sign more. A number that begins the line and has a blank after it is one of the signs
-abbrev pub isCode : ℕ → ℕ → ℕ → ℕ → Bool
-isCode hash ended under b = eqb b 32 && eqb hash 0 && eqb ended 0 && eqb under 1
+-- lines that begin with a digit: by their code, or by the register that is stored
+unfoldable pub codeRow : ℕ → ℕ
+codeRow c =
+    pick (eqb c 0o20) 36
+    (pick (eqb c 0o21) 37
+    (pick (eqb c 0o22) 38
+    (pick (eqb c 0o40) 53
+    (pick (eqb c 0o41) 54
+    (pick (eqb c 0o52) 63
+    (pick (eqb c 0o53) 64
+    (pick (eqb c 0o54) 65
+    (pick (eqb c 0o55) 66
+    35))))))))
 
-abbrev pub hashAfter : ℕ → ℕ → ℕ
-hashAfter hash b = (hash * 566 + b) % 1024
+unfoldable pub digitRow : (ℕ → ℕ) → ℕ
+digitRow b = pick (eqb (b 3) 32) (codeRow (b 1 % 8 * 8 + b 2 % 8)) (pick (eqb (b (numberAt b 0 .end + 4)) 65) 80 82)
 
-abbrev pub signRead : Scan → ℕ → Scan
-signRead st b =
-    record {
-      hash = hashAfter (pick (isCode (st .hash) (st .ended) (st .under) b) (st .value) (st .hash)) b;
-      ended = st .ended + st .under;
-      under = 0;
-      value = 0;
-      numbers = st .numbers;
-    }
+unfoldable pub rowSeen : (ℕ → ℕ) → ℕ
+rowSeen b = pick (isOctal (b 0)) (digitRow b) (told lineSign b)
 
-unfoldable pub byteRead : Scan → ℕ → Scan
-byteRead st b = pick (isOctal b) (digitRead st b) (signRead st b)
+-- the plan of a row --
 
--- a text up to its first newline
-unfoldable pub scanFrom : List ℕ → Scan → Scan
-scanFrom [] st = st
-scanFrom (b ∷ s) st = let more = scanFrom s (byteRead st b) in pick (eqb b 10) st more
+-- operands of one or two digits: registers, and the constants h and j
+abbrev pub isFixed : ℕ → Bool
+isFixed c = leb 3 (c / 8) || eqb c 1 || eqb c 3
 
--- how many bytes stand before it
-unfoldable pub lineLength : List ℕ → ℕ
-lineLength [] = 0
-lineLength (b ∷ s) = pick (eqb b 10) 0 (suc (lineLength s))
+-- where its digits begin, behind a letter if it has one, and how many they are
+abbrev pub lettersOf : ℕ → ℕ
+lettersOf c = pick (leb 3 (c / 8)) 1 0
 
--- the place of its key
-unfoldable pub slotOf : Scan → ℕ
-slotOf st = (st .hash + (st .ended + st .under) % 1024 * 952) % 1024
+abbrev pub digitsOf : ℕ → ℕ
+digitsOf c = pick (eqb (c % 8) 5) 2 1
 
--- the row whose lines have their key at a place; 107 is a line of data
-pub data Key : Type 0 where
-  at : ℕ → ℕ → Key
+-- the place of the digit of a field, 1 h, 2 i, 3 j, 4 k, in words that stand from place p on; 0 if no place is sure
+unfoldable pub placeOf : ℕ → List ℕ → ℕ → ℕ
+placeOf f [] p = 0
+placeOf f (w ∷ ws) p =
+    let c = w - 128 in
+    let sign = placeOf f ws (p + 1) in
+    let later = placeOf f ws (p + lettersOf c + digitsOf c) in
+    let second = pick (eqb f 4) (p + 2) later in
+    let first = pick (eqb f 3) (p + 1) second in
+    let fixed = pick (eqb (c % 8) f) (p + lettersOf c) (pick (eqb (c % 8) 5) first later) in
+    pick (ltb w 128) sign (pick (isFixed c) fixed 0)
 
-abbrev pub lookup : List Key → ℕ → ℕ
-lookup [] p = 0
-lookup (at q r ∷ l) p = let more = lookup l p in pick (eqb p q) r more
+-- the place of its number and that operand's code, or else of the newline, and 0
+unfoldable pub numberPlace : List ℕ → ℕ → ℕ
+numberPlace [] p = p
+numberPlace (w ∷ ws) p =
+    let c = w - 128 in
+    let sign = numberPlace ws (p + 1) in
+    let later = numberPlace ws (p + lettersOf c + digitsOf c) in
+    pick (ltb w 128) sign (pick (isFixed c) later p)
 
-abbrev pub keys : List Key
-keys =
-    at 914 1
-    ∷ at 953 2
-    ∷ at 549 3
-    ∷ at 981 4
-    ∷ at 13 5
-    ∷ at 677 6
-    ∷ at 861 7
-    ∷ at 331 8
-    ∷ at 60 9
-    ∷ at 324 11
-    ∷ at 663 12
-    ∷ at 919 13
-    ∷ at 607 14
-    ∷ at 763 15
-    ∷ at 633 16
-    ∷ at 905 17
-    ∷ at 37 18
-    ∷ at 201 19
-    ∷ at 45 20
-    ∷ at 444 21
-    ∷ at 495 22
-    ∷ at 230 23
-    ∷ at 418 24
-    ∷ at 884 25
-    ∷ at 292 26
-    ∷ at 40 27
-    ∷ at 416 28
-    ∷ at 524 29
-    ∷ at 874 30
-    ∷ at 304 31
-    ∷ at 680 32
-    ∷ at 788 33
-    ∷ at 114 34
-    ∷ at 62 35
-    ∷ at 854 35
-    ∷ at 622 35
-    ∷ at 390 35
-    ∷ at 158 35
-    ∷ at 950 35
-    ∷ at 718 35
-    ∷ at 486 35
-    ∷ at 254 36
-    ∷ at 22 37
-    ∷ at 814 38
-    ∷ at 743 39
-    ∷ at 960 40
-    ∷ at 726 41
-    ∷ at 569 42
-    ∷ at 571 43
-    ∷ at 113 44
-    ∷ at 87 45
-    ∷ at 239 46
-    ∷ at 347 47
-    ∷ at 697 48
-    ∷ at 969 49
-    ∷ at 777 50
-    ∷ at 137 51
-    ∷ at 17 52
-    ∷ at 586 53
-    ∷ at 354 54
-    ∷ at 984 55
-    ∷ at 986 56
-    ∷ at 539 57
-    ∷ at 339 58
-    ∷ at 383 59
-    ∷ at 183 60
-    ∷ at 939 61
-    ∷ at 781 62
-    ∷ at 934 63
-    ∷ at 264 64
-    ∷ at 614 65
-    ∷ at 968 66
-    ∷ at 581 67
-    ∷ at 689 68
-    ∷ at 297 69
-    ∷ at 405 70
-    ∷ at 989 71
-    ∷ at 11 72
-    ∷ at 881 73
-    ∷ at 140 74
-    ∷ at 1008 75
-    ∷ at 851 76
-    ∷ at 377 77
-    ∷ at 543 78
-    ∷ at 585 79
-    ∷ at 685 80
-    ∷ at 505 81
-    ∷ at 703 82
-    ∷ at 846 83
-    ∷ at 378 84
-    ∷ at 64 85
-    ∷ at 620 86
-    ∷ at 690 87
-    ∷ at 222 88
-    ∷ at 177 89
-    ∷ at 209 90
-    ∷ at 521 91
-    ∷ at 629 92
-    ∷ at 97 93
-    ∷ at 205 94
-    ∷ at 604 95
-    ∷ at 136 96
-    ∷ at 712 97
-    ∷ at 244 98
-    ∷ at 822 99
-    ∷ at 364 100
-    ∷ at 514 101
-    ∷ at 502 102
-    ∷ at 504 103
-    ∷ at 501 104
-    ∷ at 373 105
-    ∷ at 594 106
-    ∷ at 531 107
-    ∷ []
+unfoldable pub numberCode : List ℕ → ℕ
+numberCode [] = 0
+numberCode (w ∷ ws) = let later = numberCode ws in pick (ltb w 128) later (pick (isFixed (w - 128)) later (w - 128))
 
-unfoldable pub keyAt : ℕ → ℕ
-keyAt p = lookup keys p
+-- how that operand is read: 0 there is none, 1 jk, 2 jkm or ijkm, 3 64-jk, 4 an indexed place, 5 one that begins the line
+abbrev pub kindOf : ℕ → ℕ → ℕ
+kindOf c p =
+    pick (eqb c 0) 0
+    (pick (eqb (c / 8) 1) (pick (eqb p 0) 5 4)
+    (pick (eqb (c / 8) 2) 3
+    (pick (eqb c 5) 1 2)))
 
-unfoldable pub keyTable : List ℕ
-keyTable = table keyAt 0 1024
+-- a row's plan: the parcel without its operands; the places of h, i, j and k; the place of the number, and its kind
+abbrev pub planBy : ℕ → List ℕ → List ℕ
+planBy x ws =
+    let k = placeOf 4 ws 0 in
+    let p = numberPlace ws 0 in
+    pick (eqb k 0) x (x / 8 * 8) ∷ placeOf 1 ws 0 ∷ placeOf 2 ws 0 ∷ placeOf 3 ws 0 ∷ k ∷ p ∷ kindOf (numberCode ws) p ∷ []
 
--- how a row's numbers make its parcels: what stands fixed, and the weight of each number; 2 is a number whose low 16 bits are the
--- second parcel, 3 one that is taken away
-abbrev pub plans : List ℕ
-plans =
-    0 ∷ 0 ∷ 0 ∷ 0 ∷ 0
-    ∷ 0 ∷ 0 ∷ 0 ∷ 0 ∷ 0
-    ∷ 0o1000 ∷ 0 ∷ 0 ∷ 0 ∷ 0
-    ∷ 0o1000 ∷ 8 ∷ 1 ∷ 0 ∷ 0
-    ∷ 0o1100 ∷ 8 ∷ 1 ∷ 0 ∷ 0
-    ∷ 0o1200 ∷ 8 ∷ 0 ∷ 0 ∷ 0
-    ∷ 0o1201 ∷ 8 ∷ 0 ∷ 0 ∷ 0
-    ∷ 0o1300 ∷ 8 ∷ 0 ∷ 0 ∷ 0
-    ∷ 0o1400 ∷ 8 ∷ 0 ∷ 0 ∷ 0
-    ∷ 0o1402 ∷ 3 ∷ 0 ∷ 0 ∷ 0
-    ∷ 0o1402 ∷ 0 ∷ 0 ∷ 0 ∷ 0
-    ∷ 0o1403 ∷ 8 ∷ 0 ∷ 0 ∷ 0
-    ∷ 0o1404 ∷ 8 ∷ 0 ∷ 0 ∷ 0
-    ∷ 0o1405 ∷ 0 ∷ 0 ∷ 0 ∷ 0
-    ∷ 0o1406 ∷ 0 ∷ 0 ∷ 0 ∷ 0
-    ∷ 0o1407 ∷ 0 ∷ 0 ∷ 0 ∷ 0
-    ∷ 0o2000 ∷ 1 ∷ 0 ∷ 0 ∷ 0
-    ∷ 0o2300 ∷ 0 ∷ 0 ∷ 0 ∷ 0
-    ∷ 0o2400 ∷ 0 ∷ 0 ∷ 0 ∷ 0
-    ∷ 0o2500 ∷ 0 ∷ 0 ∷ 0 ∷ 0
-    ∷ 0o2600 ∷ 0 ∷ 0 ∷ 0 ∷ 0
-    ∷ 0o2700 ∷ 0 ∷ 0 ∷ 0 ∷ 0
-    ∷ 0o3000 ∷ 8 ∷ 0 ∷ 0 ∷ 0
-    ∷ 0o4000 ∷ 0 ∷ 0 ∷ 0 ∷ 0
-    ∷ 0o5000 ∷ 1 ∷ 0 ∷ 0 ∷ 0
-    ∷ 0o6000 ∷ 2 ∷ 0 ∷ 0 ∷ 0
-    ∷ 0o7000 ∷ 2 ∷ 0 ∷ 0 ∷ 0
-    ∷ 0o10000 ∷ 2 ∷ 0 ∷ 0 ∷ 0
-    ∷ 0o11000 ∷ 2 ∷ 0 ∷ 0 ∷ 0
-    ∷ 0o12000 ∷ 2 ∷ 0 ∷ 0 ∷ 0
-    ∷ 0o13000 ∷ 2 ∷ 0 ∷ 0 ∷ 0
-    ∷ 0o14000 ∷ 2 ∷ 0 ∷ 0 ∷ 0
-    ∷ 0o15000 ∷ 2 ∷ 0 ∷ 0 ∷ 0
-    ∷ 0o16000 ∷ 2 ∷ 0 ∷ 0 ∷ 0
-    ∷ 0o17000 ∷ 2 ∷ 0 ∷ 0 ∷ 0
-    ∷ 0o10400 ∷ 0 ∷ 512 ∷ 2 ∷ 0
-    ∷ 0o20000 ∷ 0 ∷ 64 ∷ 2 ∷ 0
-    ∷ 0o21000 ∷ 0 ∷ 64 ∷ 2 ∷ 0
-    ∷ 0o22000 ∷ 0 ∷ 64 ∷ 1 ∷ 0
-    ∷ 0o23000 ∷ 64 ∷ 8 ∷ 0 ∷ 0
-    ∷ 0o23001 ∷ 64 ∷ 0 ∷ 0 ∷ 0
-    ∷ 0o24000 ∷ 64 ∷ 1 ∷ 0 ∷ 0
-    ∷ 0o25000 ∷ 1 ∷ 64 ∷ 0 ∷ 0
-    ∷ 0o26000 ∷ 64 ∷ 8 ∷ 0 ∷ 0
-    ∷ 0o26001 ∷ 64 ∷ 8 ∷ 0 ∷ 0
-    ∷ 0o27000 ∷ 64 ∷ 8 ∷ 0 ∷ 0
-    ∷ 0o30000 ∷ 64 ∷ 8 ∷ 1 ∷ 0
-    ∷ 0o31000 ∷ 64 ∷ 8 ∷ 1 ∷ 0
-    ∷ 0o32000 ∷ 64 ∷ 8 ∷ 1 ∷ 0
-    ∷ 0o34000 ∷ 1 ∷ 64 ∷ 0 ∷ 0
-    ∷ 0o35000 ∷ 0 ∷ 1 ∷ 64 ∷ 0
-    ∷ 0o36000 ∷ 1 ∷ 64 ∷ 0 ∷ 0
-    ∷ 0o37000 ∷ 0 ∷ 1 ∷ 64 ∷ 0
-    ∷ 0o40000 ∷ 0 ∷ 64 ∷ 2 ∷ 0
-    ∷ 0o41000 ∷ 0 ∷ 64 ∷ 2 ∷ 0
-    ∷ 0o42100 ∷ 64 ∷ 3 ∷ 0 ∷ 0
-    ∷ 0o43000 ∷ 64 ∷ 1 ∷ 0 ∷ 0
-    ∷ 0o44000 ∷ 64 ∷ 8 ∷ 1 ∷ 0
-    ∷ 0o45000 ∷ 64 ∷ 1 ∷ 8 ∷ 0
-    ∷ 0o46000 ∷ 64 ∷ 8 ∷ 1 ∷ 0
-    ∷ 0o47000 ∷ 64 ∷ 8 ∷ 1 ∷ 0
-    ∷ 0o50000 ∷ 64 ∷ 8 ∷ 0 ∷ 1
-    ∷ 0o51000 ∷ 64 ∷ 8 ∷ 1 ∷ 0
-    ∷ 0o52000 ∷ 0 ∷ 0 ∷ 64 ∷ 1
-    ∷ 0o53000 ∷ 0 ∷ 0 ∷ 64 ∷ 1
-    ∷ 0o54000 ∷ 0 ∷ 64 ∷ 0 ∷ 1
-    ∷ 0o55000 ∷ 0 ∷ 64 ∷ 0 ∷ 1
-    ∷ 0o56000 ∷ 64 ∷ 0 ∷ 8 ∷ 1
-    ∷ 0o57000 ∷ 64 ∷ 8 ∷ 0 ∷ 1
-    ∷ 0o60000 ∷ 64 ∷ 8 ∷ 1 ∷ 0
-    ∷ 0o61000 ∷ 64 ∷ 8 ∷ 1 ∷ 0
-    ∷ 0o71000 ∷ 64 ∷ 1 ∷ 0 ∷ 0
-    ∷ 0o71010 ∷ 64 ∷ 1 ∷ 0 ∷ 0
-    ∷ 0o73000 ∷ 64 ∷ 0 ∷ 0 ∷ 0
-    ∷ 0o73001 ∷ 64 ∷ 0 ∷ 0 ∷ 0
-    ∷ 0o74000 ∷ 64 ∷ 1 ∷ 0 ∷ 0
-    ∷ 0o75000 ∷ 1 ∷ 64 ∷ 0 ∷ 0
-    ∷ 0o76000 ∷ 64 ∷ 8 ∷ 1 ∷ 0
-    ∷ 0o77000 ∷ 64 ∷ 1 ∷ 8 ∷ 0
-    ∷ 0o100000 ∷ 64 ∷ 2 ∷ 512 ∷ 0
-    ∷ 0o110000 ∷ 2 ∷ 512 ∷ 64 ∷ 0
-    ∷ 0o120000 ∷ 64 ∷ 2 ∷ 512 ∷ 0
-    ∷ 0o130000 ∷ 2 ∷ 512 ∷ 64 ∷ 0
-    ∷ 0o140000 ∷ 64 ∷ 8 ∷ 1 ∷ 0
-    ∷ 0o141000 ∷ 64 ∷ 8 ∷ 1 ∷ 0
-    ∷ 0o142000 ∷ 64 ∷ 8 ∷ 1 ∷ 0
-    ∷ 0o143000 ∷ 64 ∷ 8 ∷ 1 ∷ 0
-    ∷ 0o144000 ∷ 64 ∷ 8 ∷ 1 ∷ 0
-    ∷ 0o145000 ∷ 64 ∷ 8 ∷ 1 ∷ 0
-    ∷ 0o146000 ∷ 64 ∷ 8 ∷ 1 ∷ 0
-    ∷ 0o147000 ∷ 64 ∷ 8 ∷ 1 ∷ 0
-    ∷ 0o150000 ∷ 64 ∷ 8 ∷ 1 ∷ 0
-    ∷ 0o151000 ∷ 64 ∷ 8 ∷ 1 ∷ 0
-    ∷ 0o152000 ∷ 64 ∷ 8 ∷ 0 ∷ 1
-    ∷ 0o153000 ∷ 64 ∷ 8 ∷ 0 ∷ 1
-    ∷ 0o154000 ∷ 64 ∷ 8 ∷ 1 ∷ 0
-    ∷ 0o155000 ∷ 64 ∷ 8 ∷ 1 ∷ 0
-    ∷ 0o156000 ∷ 64 ∷ 8 ∷ 1 ∷ 0
-    ∷ 0o157000 ∷ 64 ∷ 8 ∷ 1 ∷ 0
-    ∷ 0o174001 ∷ 64 ∷ 8 ∷ 0 ∷ 0
-    ∷ 0o174002 ∷ 64 ∷ 8 ∷ 0 ∷ 0
-    ∷ 0o175000 ∷ 8 ∷ 0 ∷ 0 ∷ 0
-    ∷ 0o175001 ∷ 8 ∷ 0 ∷ 0 ∷ 0
-    ∷ 0o175002 ∷ 8 ∷ 0 ∷ 0 ∷ 0
-    ∷ 0o175003 ∷ 8 ∷ 0 ∷ 0 ∷ 0
-    ∷ 0o176000 ∷ 64 ∷ 0 ∷ 1 ∷ 0
-    ∷ 0o177000 ∷ 0 ∷ 1 ∷ 8 ∷ 0
-    ∷ 0 ∷ 1 ∷ 0 ∷ 0 ∷ 0
-    ∷ []
+unfoldable pub planOf : ℕ → List ℕ
+planOf r = let plan = planBy (getD samples r 0) (rowWords r) in pick (eqb r 107) (0 ∷ 0 ∷ 0 ∷ 0 ∷ 0 ∷ 5 ∷ 1 ∷ []) plan
 
-unfoldable pub planAt : ℕ → ℕ → ℕ
-planAt r n = getD plans (r * 5 + n) 0
+unfoldable pub planTable : List ℕ
+planTable = table (λ n. getD (planOf (n / 8)) (n % 8) 0) 0 864
 
-unfoldable pub firstPart : ℕ → ℕ → ℕ
-firstPart w n = pick (eqb w 2) (n / 65536) (pick (eqb w 3) (65536 - n % 65536) (n * w))
+-- the guess --
 
-unfoldable pub secondPart : ℕ → ℕ → ℕ
-secondPart w n = pick (eqb w 2) (n % 65536) 0
+-- two parcels, whether the second is meant, and how many bytes the line has
+pub record Guess : Type 0 where
+  pub first : ℕ
+  pub second : ℕ
+  pub two : Bool
+  pub length : ℕ
 
-unfoldable pub firstOf : ℕ → List ℕ → ℕ
-firstOf r ns =
-    (planAt r 0
-    + firstPart (planAt r 1) (getD ns 0 0)
-    + firstPart (planAt r 2) (getD ns 1 0)
-    + firstPart (planAt r 3) (getD ns 2 0)
-    + firstPart (planAt r 4) (getD ns 3 0))
-    % 65536
+abbrev pub one : ℕ → ℕ → Guess
+one x n = record { first = x % 65536; second = 0; two = false; length = n }
 
-unfoldable pub secondOf : ℕ → List ℕ → ℕ
-secondOf r ns =
-    (secondPart (planAt r 1) (getD ns 0 0)
-    + secondPart (planAt r 2) (getD ns 1 0)
-    + secondPart (planAt r 3) (getD ns 2 0)
-    + secondPart (planAt r 4) (getD ns 3 0))
-    % 65536
+abbrev pub both : ℕ → ℕ → ℕ → Guess
+both x m n = record { first = x % 65536; second = m % 65536; two = true; length = n }
 
--- the guess: two parcels, and whether the line is one of data
-abbrev pub guessed : ℕ → List ℕ → Guess
-guessed r ns = record { first = firstOf r ns; second = secondOf r ns; as_data = eqb r 107 }
+abbrev pub digitAt : (ℕ → ℕ) → ℕ → ℕ
+digitAt b p = pick (eqb p 0) 0 (b p % 8)
+
+-- a number and the fixed part of the parcel
+unfoldable pub withNumber : (ℕ → ℕ) → ℕ → ℕ → Numeral → Guess
+withNumber b kind x n =
+    let v = n .value in
+    let e = n .end in
+    pick (eqb kind 1) (one (x + v) (e + 1))
+    (pick (eqb kind 2) (both (x + v / 65536) v (e + 1))
+    (pick (eqb kind 3) (one (x + 65600 - v % 65536) (e + 1))
+    (pick (eqb kind 4) (both (x + v / 65536 + b (e + 2) % 8 * 512) v (e + 4))
+    (both (x + v / 65536 + b (e + 2) % 8 * 512 + b (e + 5) % 8 * 64) v (e + 7)))))
+
+unfoldable pub guessWith : (ℕ → ℕ) → List ℕ → Guess
+guessWith b plan =
+    let at : ℕ → ℕ = λ n. getD plan n 0 in
+    let x = at 0 + digitAt b (at 1) * 512 + digitAt b (at 2) * 64 + digitAt b (at 3) * 8 + digitAt b (at 4) in
+    let more = withNumber b (at 6) x (numberAt b (at 5)) in
+    pick (eqb (at 6) 0) (one x (at 5 + 1)) more
+
+unfoldable pub guessBy : (ℕ → ℕ) → Guess
+guessBy b = guessWith b (planOf (rowSeen b))
 
 unfoldable pub guessOf : List ℕ → Guess
-guessOf s = guessed (keyAt (slotOf (scanFrom s begun))) (scanFrom s begun .numbers)
+guessOf s = guessBy (bytesOf s)
+
+-- a guess as one number, as the program passes it on
+unfoldable pub packed : Guess → ℕ
+packed g = g .first + g .second * 65536 + bit (g .two) * 2 ^ 32 + g .length * 2 ^ 33

@@ -29,10 +29,3 @@ pub enum Listed {
     Bytes(usize),
     TooLong,
 }
-
-// The parcels that a line is guessed to stand for, and whether it is a line of data.
-pub struct Guess {
-    pub first: u64,
-    pub second: u64,
-    pub as_data: bool,
-}
