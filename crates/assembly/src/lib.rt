@@ -1,22 +1,27 @@
-// Assembling and listing CAL. A line is guessed from its signs and numbers, and the instruction that is guessed is listed again:
-// the line is right if that gives the line. So there is one place that knows how an instruction is spelled, the crate line.
+// Assembling and listing CAL. A line is guessed from its signs and digits, and the instruction that is guessed is listed again, over
+// a copy of the text: the line is right if that changes nothing. So there is one place that knows how an instruction is spelled, the
+// crate line.
 ghost use mathlib.Core.Path.{_≡_};
-ghost use mathlib.Core.List.{[], _∷_};
 ghost use Prim.Native.Nat.{_+_, _^_, _≤_, _<_};
-ghost use lib.ListN.{length, drop, take};
+ghost use lib.ListN.{length, drop, take, replicate};
 ghost use lib.Seq.{sets};
-ghost use lib.Dec.{leb, eqb};
+ghost use lib.Dec.{leb};
 ghost use Rattle.machine.specs.Word.{pick};
 ghost use Rattle.text.specs.Report.{Wrote};
 ghost use Rattle.spelling.specs.Listing.{dataLine, lineOf, listOf, firstLine, parcelsIn, listed, roomListed};
 ghost use Rattle.spelling.specs.Rows.{rowOf, formTable, operandTable};
-ghost use Rattle.spelling.specs.Candidate.{keyTable, plans};
-ghost use Rattle.spelling.specs.Assembling.{begins, lineIs, ifLast, parcelsOf, readLine, readOf, roomAfter, assembled, roomAssembled};
-ghost use Rattle.assembly.specs.Reads.{ReadsAs, Checks, Fits};
-ghost use Rattle.assembly.specs.declared.Read.the-variants.{Line as ALine, NoLine};
+ghost use Rattle.spelling.specs.Candidate.{planTable, guessOf, packed};
+ghost use Rattle.spelling.specs.Assembling.{begins, readLine, readOf, roomAfter, assembled, roomAssembled};
+ghost use Rattle.assembly.specs.Reads.{Hears, readAs, ReadsAs, Checks, Fits, unpacked};
 use spelling::Assembled;
-use spelling::Guess;
 use spelling::Listed;
+
+// A line as it is guessed: how many bytes it has, 0 if the text has another; of how many parcels; and whether no other may follow.
+struct Heard {
+    bytes: usize,
+    parcels: usize,
+    last: bool,
+}
 
 // A line read: how many parcels it stands for, and where the next line starts; or it is bad.
 enum Read {
@@ -30,28 +35,40 @@ enum Checked {
     Fails(usize),
 }
 
-// How many bytes of a line, and of how many parcels.
+// A line written: the place after it, and the parcel after its own.
 struct Next {
-    bytes: usize,
-    parcels: usize,
+    to: usize,
+    at: usize,
 }
 
-// Whether a text has the first len bytes of a line at a place.
-fn matches(text: &[u8], at: usize, line: &[u8; 16], len: usize) -> bool
-    requires { ⌜ (at ≤ length (now text)) × (len ≤ 16) × (length (now line) ≡ 16) ⌝ }
-    ensures { λ r. ⌜ r ≡ begins (drop at (now (text .entry))) (take len (now (line .entry))) ⌝ }
+// The 16 bytes at a place; no line has more.
+fn copied(text: &[u8], at: usize) -> [u8; 16]
+    requires { ⌜ at + 16 ≤ length (now text) ⌝ }
+    ensures { λ r. ⌜ r ≡ take 16 (drop at (now (text .entry))) ⌝ }
 {
-    if text.len() - at < len {
-        return false;
+    let mut line = [0u8; 16];
+    let mut i: usize = 0;
+    while i < 16 {
+        line[i] = text[at + i];
+        i += 1;
     }
-    let mut same: usize = 0;
-    while same < len {
-        if text[at + same] != line[same] {
-            return false;
+    line
+}
+
+// Whether a text has these 16 bytes at a place. All are looked at, since the machine compares 16 at once.
+fn is_same(text: &[u8], at: usize, line: &[u8; 16]) -> bool
+    requires { ⌜ (at + 16 ≤ length (now text)) × (length (now line) ≡ 16) ⌝ }
+    ensures { λ r. ⌜ r ≡ begins (drop at (now (text .entry))) (now (line .entry)) ⌝ }
+{
+    let mut same = true;
+    let mut p: usize = 0;
+    while p < 16 {
+        if text[at + p] != line[p] {
+            same = false;
         }
-        same += 1;
+        p += 1;
     }
-    true
+    same
 }
 
 // The length of an instruction's line, if the text has it at a place, else 0.
@@ -64,56 +81,92 @@ fn line_at(
     x: u64,
     m: u64,
 ) -> usize
-    requires { ⌜ (at ≤ length (now text)) × (row ≡ rowOf x) × (x < 65536) × (m < 65536) × (now forms ≡ formTable) × (now operands ≡ operandTable) ⌝ }
+    requires { ⌜ (at + 16 ≤ length (now text)) × (row ≡ rowOf x) × (x < 65536) × (m < 65536) × (now forms ≡ formTable) × (now operands ≡ operandTable) ⌝ }
     ensures { λ r. ⌜ r ≡ pick (begins (drop at (now (text .entry))) (lineOf x m)) (length (lineOf x m)) 0 ⌝ }
 {
-    let mut line = [0u8; 16];
-    let len = line::put_line(&mut line, forms, operands, row, x, m);
-    if matches(text, at, &line, len) {
-        len
-    } else {
-        0
-    }
+    let mut line = copied(text, at);
+    let len = line::put_line(&mut line, 0, forms, operands, row, x, m);
+    if is_same(text, at, &line) { len } else { 0 }
 }
 
 // The same of a line of data.
 fn data_at(text: &[u8], at: usize, x: u64) -> usize
-    requires { ⌜ (at ≤ length (now text)) × (x < 65536) ⌝ }
+    requires { ⌜ (at + 16 ≤ length (now text)) × (x < 65536) ⌝ }
     ensures { λ r. ⌜ r ≡ pick (begins (drop at (now (text .entry))) (dataLine x)) (length (dataLine x)) 0 ⌝ }
 {
-    let mut line = [0u8; 16];
-    let len = line::put_data(&mut line, x);
-    if matches(text, at, &line, len) {
-        len
-    } else {
-        0
+    let mut line = copied(text, at);
+    let len = line::put_data(&mut line, 0, x);
+    if is_same(text, at, &line) { len } else { 0 }
+}
+
+// The line at a place that has 32 bytes. The first of two parcels is data only where its second is missing.
+fn hear(
+    text: &[u8],
+    at: usize,
+    forms: &[u8; 1284],
+    operands: &[u16; 428],
+    plans: &[u16; 864],
+) -> Heard
+    requires { ⌜ (at + 32 ≤ length (now text)) × (now forms ≡ formTable) × (now operands ≡ operandTable) × (now plans ≡ planTable) ⌝ }
+    ensures { λ r. ⌜ Hears (drop at (now (text .entry))) r ⌝ }
+{
+    let g = guess::guess(text, at, plans);
+    let x = g % 65536;
+    let row = line::row_of(x);
+    if !line::has_second(row) {
+        return Heard {
+            bytes: line_at(text, at, forms, operands, row, x, 0),
+            parcels: 1,
+            last: false,
+        };
+    }
+    if g / 4294967296 % 2 == 0 {
+        return Heard {
+            bytes: data_at(text, at, x),
+            parcels: 1,
+            last: true,
+        };
+    }
+    Heard {
+        bytes: line_at(text, at, forms, operands, row, x, g / 65536 % 65536),
+        parcels: 2,
+        last: false,
     }
 }
 
-// What a line of so many bytes and parcels at a place is read as, 0 bytes being none.
-fn found(at: usize, bytes: usize, parcels: usize) -> Read
-    requires { ⌜ at + bytes < 2 ^ 64 ⌝ }
-    ensures { λ r. ⌜ r ≡ pick (eqb bytes 0) NoLine (ALine parcels (at + bytes)) ⌝ }
+// What a line at a place is read as, where so many bytes are left.
+fn found(at: usize, left: usize, h: Heard) -> Read
+    requires { ⌜ at + left < 2 ^ 64 ⌝ }
+    ensures { λ r. ⌜ r ≡ readAs at left h ⌝ }
 {
-    if bytes == 0 {
+    if h.bytes == 0 {
+        return Read::NoLine;
+    }
+    if left < h.bytes {
+        return Read::NoLine;
+    }
+    if h.last && h.bytes < left {
         return Read::NoLine;
     }
     Read::Line {
-        parcels,
-        next: at + bytes,
+        parcels: h.parcels,
+        next: at + h.bytes,
     }
 }
 
-// A first parcel whose second is missing: it is data, and the last line of the text.
-fn last_data(text: &[u8], at: usize, x: u64) -> Read
-    requires { ⌜ (at < length (now text)) × (x < 65536) ⌝ }
-    ensures { λ r. ⌜ ReadsAs (now (text .entry)) at (ifLast (lineIs (drop at (now (text .entry))) (dataLine x) (x ∷ []))) r ⌝ }
+// The last bytes of a text, and newlines after them, so that a guess can look at 32.
+fn tail(text: &[u8], at: usize) -> [u8; 64]
+    requires { ⌜ (at ≤ length (now text)) × (length (now text) < at + 32) ⌝ }
+    ensures { λ r. ⌜ r ≡ sets (replicate 64 10) 0 (drop at (now (text .entry))) ⌝ }
 {
-    let n = data_at(text, at, x);
-    if n < text.len() - at {
-        return Read::NoLine;
+    let mut rest = [10u8; 64];
+    let n = text.len() - at;
+    let mut i: usize = 0;
+    while i < n {
+        rest[i] = text[at + i];
+        i += 1;
     }
-    found(at, n, 1)
+    rest
 }
 
 // The line at a place of a text.
@@ -122,24 +175,17 @@ fn read_line(
     at: usize,
     forms: &[u8; 1284],
     operands: &[u16; 428],
-    keys: &[u8; 1024],
-    table: &[u16; 540],
+    plans: &[u16; 864],
 ) -> Read
-    requires { ⌜ (at < length (now text)) × (now forms ≡ formTable) × (now operands ≡ operandTable) × (now keys ≡ keyTable) × (now table ≡ plans) ⌝ }
+    requires { ⌜ (at < length (now text)) × (now forms ≡ formTable) × (now operands ≡ operandTable) × (now plans ≡ planTable) ⌝ }
     ensures { λ r. ⌜ ReadsAs (now (text .entry)) at (readLine (drop at (now (text .entry)))) r ⌝ }
 {
-    let guessed = guess::guess(text, at, keys, table);
-    let g = guessed.guess;
-    let row = line::row_of(g.first);
-    if !line::has_second(row) {
-        let n = line_at(text, at, forms, operands, row, g.first, 0);
-        return found(at, n, 1);
+    let left = text.len() - at;
+    if 32 <= left {
+        return found(at, left, hear(text, at, forms, operands, plans));
     }
-    if g.as_data {
-        return last_data(text, at, g.first);
-    }
-    let n = line_at(text, at, forms, operands, row, g.first, g.second);
-    found(at, n, 2)
+    let rest = tail(text, at);
+    found(at, left, hear(&rest, 0, forms, operands, plans))
 }
 
 // Looks a text through, storing nothing.
@@ -147,18 +193,16 @@ fn check(
     text: &[u8],
     forms: &[u8; 1284],
     operands: &[u16; 428],
-    keys: &[u8; 1024],
-    table: &[u16; 540],
+    plans: &[u16; 864],
 ) -> Checked
-    requires { ⌜ (now forms ≡ formTable) × (now operands ≡ operandTable) × (now keys ≡ keyTable) × (now table ≡ plans) ⌝ }
+    requires { ⌜ (now forms ≡ formTable) × (now operands ≡ operandTable) × (now plans ≡ planTable) ⌝ }
     ensures { λ r. ⌜ Checks (now (text .entry)) r ⌝ }
 {
     let mut at: usize = 0;
     let mut parcels: usize = 0;
     let mut lines: usize = 0;
     while at < text.len() {
-        let Read::Line { parcels: n, next } = read_line(text, at, forms, operands, keys, table)
-        else {
+        let Read::Line { parcels: n, next } = read_line(text, at, forms, operands, plans) else {
             return Checked::Fails(lines);
         };
         parcels += n;
@@ -169,44 +213,51 @@ fn check(
 }
 
 // The same, with the tables of lines made for it.
-fn look_through(text: &[u8], keys: &[u8; 1024], table: &[u16; 540]) -> Checked
-    requires { ⌜ (now keys ≡ keyTable) × (now table ≡ plans) ⌝ }
+fn look_through(text: &[u8], plans: &[u16; 864]) -> Checked
+    requires { ⌜ now plans ≡ planTable ⌝ }
     ensures { λ r. ⌜ Checks (now (text .entry)) r ⌝ }
 {
     let forms = line::forms();
     let operands = line::operands();
-    check(text, &forms, &operands, keys, table)
+    check(text, &forms, &operands, plans)
+}
+
+// The guess of the line at a place.
+fn look(text: &[u8], at: usize, plans: &[u16; 864]) -> u64
+    requires { ⌜ (at < length (now text)) × (now plans ≡ planTable) ⌝ }
+    ensures { λ r. ⌜ r ≡ packed (guessOf (drop at (now (text .entry)))) ⌝ }
+{
+    if 32 <= text.len() - at {
+        return guess::guess(text, at, plans);
+    }
+    let rest = tail(text, at);
+    guess::guess(&rest, 0, plans)
 }
 
 // Stores the parcels of a guess from a place of the room on, and answers the place after them.
-fn put_parcels(room: &mut [u16], n: usize, g: Guess) -> usize
-    requires { ⌜ (n + length (parcelsOf g) ≤ length (now room)) × (g .first < 65536) × (g .second < 65536) ⌝ }
-    ensures { λ r. ⌜ (now (room .exit) ≡ sets (now (room .entry)) n (parcelsOf g)) × (r ≡ n + length (parcelsOf g)) ⌝ }
+fn put_parcels(room: &mut [u16], n: usize, g: u64) -> usize
+    requires { ⌜ n + length (unpacked g) ≤ length (now room) ⌝ }
+    ensures { λ r. ⌜ (now (room .exit) ≡ sets (now (room .entry)) n (unpacked g)) × (r ≡ n + length (unpacked g)) ⌝ }
 {
-    let row = line::row_of(g.first);
-    room[n] = g.first as u16;
-    if !line::has_second(row) {
+    room[n] = (g % 65536) as u16;
+    if g / 4294967296 % 2 == 0 {
         return n + 1;
     }
-    if g.as_data {
-        return n + 1;
-    }
-    room[n + 1] = g.second as u16;
+    room[n + 1] = (g / 65536 % 65536) as u16;
     n + 2
 }
 
 // Stores the parcels of a text that holds no bad line, and for which there is room.
-fn store(text: &[u8], room: &mut [u16], keys: &[u8; 1024], table: &[u16; 540])
-    requires { ⌜ Fits (length (now room)) (readOf (now text)) × (now keys ≡ keyTable) × (now table ≡ plans) ⌝ }
+fn store(text: &[u8], room: &mut [u16], plans: &[u16; 864])
+    requires { ⌜ Fits (length (now room)) (readOf (now text)) × (now plans ≡ planTable) ⌝ }
     ensures { λ _. ⌜ now (room .exit) ≡ roomAfter (now (room .entry)) (readOf (now (text .entry))) ⌝ }
 {
     let mut at: usize = 0;
     let mut n: usize = 0;
     while at < text.len() {
-        let guessed = guess::guess(text, at, keys, table);
-        let g = guessed.guess;
+        let g = look(text, at, plans);
         n = put_parcels(room, n, g);
-        at = guessed.end + 1;
+        at += (g / 8589934592) as usize;
     }
 }
 
@@ -215,51 +266,50 @@ pub fn assemble(text: &[u8], room: &mut [u16]) -> Assembled
     ensures { λ r. ⌜ r ≡ assembled (now (text .entry)) (now (room .entry)) ⌝ }
     ensures { λ _. ⌜ now (room .exit) ≡ roomAssembled (now (text .entry)) (now (room .entry)) ⌝ }
 {
-    let keys = guess::key_table();
-    let table = guess::plan_table();
-    match look_through(text, &keys, &table) {
+    let plans = guess::plan_table();
+    match look_through(text, &plans) {
         Checked::Fails(lines) => Assembled::BadLine(lines + 1),
         Checked::Holds(n) => {
             if room.len() < n {
                 return Assembled::Overfull;
             }
-            store(text, room, &keys, &table);
+            store(text, room, &plans);
             Assembled::Parcels(n)
         }
     }
 }
 
-// The line of the next instruction of parcels.
+// Writes the line of the next instruction of parcels from a place on.
 fn put_next(
-    line: &mut [u8; 16],
+    out: &mut [u8],
+    to: usize,
     parcels: &[u16],
     at: usize,
     forms: &[u8; 1284],
     operands: &[u16; 428],
 ) -> Next
-    requires { ⌜ (at < length (now parcels)) × (length (now line) ≡ 16) × (now forms ≡ formTable) × (now operands ≡ operandTable) ⌝ }
-    ensures { λ r. ⌜ Wrote (now (line .entry)) 0 (firstLine (drop at (now (parcels .entry)))) (now (line .exit)) (r .bytes) ⌝ }
-    ensures { λ r. ⌜ (r .parcels ≡ parcelsIn (drop at (now (parcels .entry)))) × (0 < r .parcels) × (at + r .parcels ≤ length (now (parcels .entry))) ⌝ }
-    ensures { λ r. ⌜ (r .bytes ≤ 16) × (length (now (line .exit)) ≡ 16) ⌝ }
+    requires { ⌜ (at < length (now parcels)) × (to + length (firstLine (drop at (now parcels))) ≤ length (now out)) × (now forms ≡ formTable) × (now operands ≡ operandTable) ⌝ }
+    ensures { λ r. ⌜ Wrote (now (out .entry)) to (firstLine (drop at (now (parcels .entry)))) (now (out .exit)) (r .to) ⌝ }
+    ensures { λ r. ⌜ (r .at ≡ at + parcelsIn (drop at (now (parcels .entry)))) × (at < r .at) × (r .at ≤ length (now (parcels .entry))) ⌝ }
 {
     let x = parcels[at] as u64;
     let row = line::row_of(x);
     if !line::has_second(row) {
         return Next {
-            bytes: line::put_line(line, forms, operands, row, x, 0),
-            parcels: 1,
+            to: line::put_line(out, to, forms, operands, row, x, 0),
+            at: at + 1,
         };
     }
     if parcels.len() - at < 2 {
         return Next {
-            bytes: line::put_data(line, x),
-            parcels: 1,
+            to: line::put_data(out, to, x),
+            at: at + 1,
         };
     }
     let m = parcels[at + 1] as u64;
     Next {
-        bytes: line::put_line(line, forms, operands, row, x, m),
-        parcels: 2,
+        to: line::put_line(out, to, forms, operands, row, x, m),
+        at: at + 2,
     }
 }
 
@@ -275,26 +325,14 @@ fn is_room(parcels: &[u16], room: usize, forms: &[u8; 1284], operands: &[u16; 42
     let mut left = room;
     let mut at: usize = 0;
     while at < parcels.len() {
-        let next = put_next(&mut line, parcels, at, forms, operands);
-        if left < next.bytes {
+        let next = put_next(&mut line, 0, parcels, at, forms, operands);
+        if left < next.to {
             return false;
         }
-        left -= next.bytes;
-        at += next.parcels;
+        left -= next.to;
+        at = next.at;
     }
     true
-}
-
-// Copies the first n bytes of a line to a place.
-fn copy(out: &mut [u8], to: usize, line: &[u8; 16], n: usize)
-    requires { ⌜ (n ≤ 16) × (to + n ≤ length (now out)) × (length (now line) ≡ 16) ⌝ }
-    ensures { λ _. ⌜ now (out .exit) ≡ sets (now (out .entry)) to (take n (now (line .entry))) ⌝ }
-{
-    let mut i: usize = 0;
-    while i < n {
-        out[to + i] = line[i];
-        i += 1;
-    }
 }
 
 // Writes a listing for which there is room, and answers its length.
@@ -302,14 +340,12 @@ fn write(parcels: &[u16], out: &mut [u8], forms: &[u8; 1284], operands: &[u16; 4
     requires { ⌜ (length (listOf (now parcels)) ≤ length (now out)) × (now forms ≡ formTable) × (now operands ≡ operandTable) ⌝ }
     ensures { λ r. ⌜ Wrote (now (out .entry)) 0 (listOf (now (parcels .entry))) (now (out .exit)) r ⌝ }
 {
-    let mut line = [0u8; 16];
     let mut to: usize = 0;
     let mut at: usize = 0;
     while at < parcels.len() {
-        let next = put_next(&mut line, parcels, at, forms, operands);
-        copy(out, to, &line, next.bytes);
-        to += next.bytes;
-        at += next.parcels;
+        let next = put_next(out, to, parcels, at, forms, operands);
+        to = next.to;
+        at = next.at;
     }
     to
 }

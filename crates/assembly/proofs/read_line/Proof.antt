@@ -1,62 +1,66 @@
-use mathlib.Core.Path.{_∙_}
-use mathlib.Core.List.{[], _∷_}
-use lib.ListN.{drop}
+use mathlib.Core.Path.{_≡_, sym, subst}
+use Prim.Native.Nat.{ℕ}
 use native.Mathlib.Omega.{arith}
-use Rattle.spelling.specs.Spelling.{second}
-use Rattle.spelling.specs.Listing.{lineOf}
-use borrow.Author.Tests.{not-true, not-false}
-use Rattle.assembly.proofs.Laws.{second-is, reads-line, found-fits, read-one, read-data, read-two}
-use Rattle.spelling.proofs.Lines.{line-most}
-use Rattle.line.proofs.Laws.{row-small}
+use lib.ListN.{drop}
+use Rattle.spelling.specs.Assembling.{readLine}
+use Rattle.assembly.specs.Reads.{ReadsAs}
+use Rattle.assembly.specs.declared.Read.{Read}
+use Rattle.assembly.proofs.Guessing.{heard-here, heard-padded}
 use borrow.Author.Needs.{needs}
 use Rattle.assembly.proofs.read_line.Statement.{statement}
 use Rattle.assembly.proofs.read_line.Tie as tie
+use Rattle.assembly.proofs.read_line.Reads as reads
+use Rattle.assembly.proofs.read_line.Lts as lts
+use Rattle.assembly.proofs.found.Reads as found-reads
+use Rattle.assembly.proofs.hear.Reads as hear-reads
+use Rattle.assembly.proofs.tail.Reads as tail-reads
 
-guess-requires : tie.Need-guess-requires
-guess-requires c κs = (omega arith, c .before .pre .3, c .before .pre .4)
+-- src/lib.rt:183:16
+sub-left : tie.Need-sub-left
+sub-left c = search needs
 
-row-of-requires : tie.Need-row-of-requires
-row-of-requires c κs = c .before .guess .ensures .1 .0 .0
+-- src/lib.rt:185:32
+hear-requires : tie.Need-hear-requires
+hear-requires c κs = search needs
 
-has-second-requires : tie.Need-has-second-requires
-has-second-requires c κs = search needs
-
-line-at-requires : tie.Need-line-at-requires
-line-at-requires c κs = let h = c .before .before .before .before .guess .ensures .1 .0 .0 in (omega arith, c .before .before .row-of .ensures .0, h, omega arith, c .before .before .before .before .before .before .pre .1, c .before .before .before .before .before .before .pre .2)
-
+-- src/lib.rt:185:9
 found-requires : tie.Need-found-requires
-found-requires c κs = let a = c .before .before .before .before .before .before .before .args in let n = found-fits (a .text .now) _ [] (a .at) _ (omega arith) (c .line-at .ensures) in omega (arith, n)
+found-requires c κs = search needs
 
+-- src/lib.rt:185:9
 returns : tie.Need-returns
-returns c = let a = c .before .before .before .before .before .before .before .before .args in let g = c .before .before .before .before .before .before .guess .result .guess in let h = c .before .before .before .before .before .before .guess .ensures .1 .0 .0 in let two = second-is _ _ _ h (c .before .before .before .before .row-of .ensures .0) (c .before .before .before .has-second .ensures) ∙ not-true _ (c .before .before .if1 .taken) in let n = line-most (g .first) 0 h (row-small (g .first) h) (omega arith) in rw (read-one (drop (a .at) (a .text .now)) g (c .before .before .before .before .before .before .guess .ensures .0) two, c .found .ensures) (reads-line (a .text .now) (lineOf (g .first) 0) (g .first ∷ []) (a .at) _ (omega arith) (omega (arith, n .0)) (omega (arith, n .0)) (c .before .line-at .ensures))
+returns c = let a = c .before .before .before .before .args in subst (λ (r : Read). ReadsAs (a .text .now) (a .at) (readLine (drop (a .at) (a .text .now))) r) (sym (c .found .ensures)) (heard-here (a .text .now) (a .at) (c .before .before .before .before .pre .0) (c .before .hear .result) (c .before .hear .ensures))
 
-last-data-requires : tie.Need-last-data-requires
-last-data-requires c κs = (omega arith, c .before .before .before .before .before .guess .ensures .1 .0 .0)
+-- src/lib.rt:187:16
+tail-requires : tie.Need-tail-requires
+tail-requires c κs = search needs
 
-returns-2 : tie.Need-returns-2
-returns-2 c = let a = c .before .before .before .before .before .before .before .before .args in let g = c .before .before .before .before .before .before .guess .result .guess in let h = c .before .before .before .before .before .before .guess .ensures .1 .0 .0 in let two = second-is _ _ _ h (c .before .before .before .before .row-of .ensures .0) (c .before .before .before .has-second .ensures) ∙ not-false _ (c .before .before .if1 .left) in rw (read-data (drop (a .at) (a .text .now)) g (c .before .before .before .before .before .before .guess .ensures .0) two (c .before .if2 .taken)) (c .last-data .ensures)
+-- src/lib.rt:188:26
+slice-aggregate-hear : tie.Need-slice-aggregate-hear
+slice-aggregate-hear c = search needs
 
-line-at-requires-2 : tie.Need-line-at-requires-2
-line-at-requires-2 c κs = let h = c .before .before .before .before .before .guess .ensures .1 .0 in (omega arith, c .before .before .before .row-of .ensures .0, h .0, h .1, c .before .before .before .before .before .before .before .pre .1, c .before .before .before .before .before .before .before .pre .2)
+-- src/lib.rt:188:21
+hear-requires-2 : tie.Need-hear-requires-2
+hear-requires-2 c κs = search needs
 
+-- src/lib.rt:188:5
 found-requires-2 : tie.Need-found-requires-2
-found-requires-2 c κs = let a = c .before .before .before .before .before .before .before .before .args in let n = found-fits (a .text .now) _ [] (a .at) _ (omega arith) (c .line-at2 .ensures) in omega (arith, n)
+found-requires-2 c κs = search needs
 
-returns-3 : tie.Need-returns-3
-returns-3 c = let a = c .before .before .before .before .before .before .before .before .before .args in let g = c .before .before .before .before .before .before .before .guess .result .guess in let h = c .before .before .before .before .before .before .before .guess .ensures .1 .0 in let two = second-is _ _ _ (h .0) (c .before .before .before .before .before .row-of .ensures .0) (c .before .before .before .before .has-second .ensures) ∙ not-false _ (c .before .before .before .if1 .left) in let n = line-most (g .first) (g .second) (h .0) (row-small (g .first) (h .0)) (h .1) in rw (read-two (drop (a .at) (a .text .now)) g (c .before .before .before .before .before .before .before .guess .ensures .0) two (c .before .before .if2 .left), c .found2 .ensures) (reads-line (a .text .now) (lineOf (g .first) (g .second)) (g .first ∷ g .second ∷ []) (a .at) _ (omega arith) (omega (arith, n .0)) (omega (arith, n .0)) (c .before .line-at2 .ensures))
+-- src/lib.rt:173:1
+returns-2 : tie.Need-returns-2
+returns-2 c = let a = c .before .before .before .before .before .before .args in subst (λ (r : Read). ReadsAs (a .text .now) (a .at) (readLine (drop (a .at) (a .text .now))) r) (sym (c .found2 .ensures)) (heard-padded (a .text .now) (a .at) (c .before .before .before .before .before .before .pre .0) (c .before .hear2 .result) (c .before .before .before .tail .result) (c .before .before .before .tail .ensures) (omega arith) (c .before .hear2 .ensures))
 
 pub read-line-spec : {M : Type 1} → statement M
 read-line-spec =
     tie.close
     (tie.spec
-    guess-requires
-    row-of-requires
-    has-second-requires
-    line-at-requires
+    sub-left
+    hear-requires
     found-requires
     returns
-    last-data-requires
-    returns-2
-    line-at-requires-2
+    tail-requires
+    slice-aggregate-hear
+    hear-requires-2
     found-requires-2
-    returns-3)
+    returns-2)
