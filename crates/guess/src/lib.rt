@@ -440,7 +440,11 @@ fn digit(text: &[u8], at: usize, p: usize) -> u64
     requires { ⌜ (at + 32 ≤ length (now text)) × (p < 32) ⌝ }
     ensures { λ r. ⌜ (r ≡ digitAt (bytesOf (drop at (now (text .entry)))) p) × (r < 8) ⌝ }
 {
-    if p == 0 { 0 } else { byte(text, at, p) as u64 % 8 }
+    if p == 0 {
+        0
+    } else {
+        byte(text, at, p) as u64 % 8
+    }
 }
 
 // A guess is one number, so that a call can return it in a register: the first parcel, the second times 2^16, 2^32 if there is a

@@ -1,0 +1,56 @@
+use native.Mathlib.Omega.{arith}
+use borrow.Author.Tests.{ne-eqb}
+use Rattle.spelling.specs.Candidate.{told}
+use borrow.Author.Needs.{needs}
+use Rattle.guess.proofs.jump.Statement.{statement}
+use Rattle.guess.proofs.jump.Tie as tie
+
+byte-requires : tie.Need-byte-requires
+byte-requires c κs = search needs
+
+add-result : tie.Need-add-result
+add-result c = search needs
+
+add-result-2 : tie.Need-add-result-2
+add-result-2 c = search needs
+
+add-result-3 : tie.Need-add-result-3
+add-result-3 c = search needs
+
+returns : tie.Need-returns
+unfolding told
+returns c = (rw (← c .before .byte .ensures, c .match .keys1), omega arith)
+
+returns-2 : tie.Need-returns-2
+unfolding told
+returns-2 c = (rw (← c .before .byte .ensures, c .match .keys2), omega arith)
+
+returns-3 : tie.Need-returns-3
+unfolding told
+returns-3 c = (rw (← c .before .byte .ensures, c .match .keys3), omega arith)
+
+returns-4 : tie.Need-returns-4
+unfolding told
+returns-4 c =
+    let r = c .match .rest in (
+      rw (
+        ← c .before .byte .ensures,
+        ne-eqb _ _ (r .0 .0 .1),
+        ne-eqb _ _ (r .0 .1),
+        ne-eqb _ _ (r .1),
+      ),
+      omega arith,
+    )
+
+pub jump-spec : {M : Type 1} → statement M
+jump-spec =
+    tie.close
+    (tie.spec
+    byte-requires
+    add-result
+    add-result-2
+    add-result-3
+    returns
+    returns-2
+    returns-3
+    returns-4)
