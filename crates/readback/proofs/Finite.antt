@@ -1,5 +1,4 @@
--- What antt computes: of each row, that its line is seen as its own and that its plan is right; of each parcel that is spelled, that
--- the plan of its row gives it back. Assumes nothing.
+-- What antt computes of each row and each parcel: the row is seen, and its plan gives the parcel back. Assumes nothing.
 use Prim.Native.Nat.{ℕ, _+_, _*_, _/_, _%_, _<_}
 use mathlib.Core.Path.{_≡_, refl, sym, ap, _∙_, subst}
 use mathlib.Core.Bool.{Bool, true, false, _&&_, _||_}

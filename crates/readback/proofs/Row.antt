@@ -28,10 +28,11 @@ leads (ask p c then else) ws r =
     let there = leads else ws r in
     toldBy (wordAt ws p) c here there
 
--- the row is told by a first sign that is no digit, by a code, or by the register a that is stored, at the end of such a line
+-- the row r is told by a first sign that is no digit
 abbrev bySign : List ℕ → ℕ → Bool
 bySign ws r = ltb (wordAt ws 0) 128 && (not (isOctal (wordAt ws 0)) && leads lineSign ws r)
 
+-- by a code, whose last digit is known or may be any d
 abbrev codeWith : ℕ → ℕ → ℕ → ℕ
 codeWith v w d = codeRow (v % 8 * 8 + pick (ltb w 128) (w % 8) d)
 
@@ -41,12 +42,14 @@ byCode ws r =
     let w = wordAt ws 2 in
     (ltb (wordAt ws 0) 128 && isOctal (wordAt ws 0)) && (eqb (wordAt ws 3) 32 && (ltb v 128 && (ltb w 133 && every (λ d. eqb (codeWith v w d) r) 8)))
 
+-- or by the letter a of the register that is stored, behind the number
 abbrev pub stored : ℕ → List ℕ
 stored a = 44 ∷ 65 ∷ 129 ∷ 32 ∷ a ∷ 130 ∷ 10 ∷ []
 
 abbrev byStore : List ℕ → ℕ → Bool
 byStore ws r = let a = getD ws 5 0 in same ws (134 ∷ stored a) && (ltb a 128 && eqb (pick (eqb a 65) 80 82) r)
 
+-- so they see it
 module _ (x m : ℕ) (ws rest : List ℕ) where
   abbrev line : ℕ → ℕ
   line = bytesOf (textOf ws x m ++ rest)
@@ -112,7 +115,7 @@ module _ (x m : ℕ) (ws rest : List ℕ) where
           let same : (48 + fieldOf (wordAt ws 2 - 128) x 0) % 8 ≡ fieldOf (wordAt ws 2 - 128) x 0 = omega (arith, digit) in
           rw same (eqb-true _ _ (every-at _ 8 all (fieldOf (wordAt ws 2 - 128) x 0) digit))
 
--- past the number of a place that is stored to
+-- the bytes behind that number
 module _ (x m : ℕ) (rest : List ℕ) (a : ℕ) (sign : ltb a 128 ≡ true) where
   stored-letter : getD (textOf (stored a) x m ++ rest) 4 10 ≡ a
   unfolding from

@@ -94,7 +94,7 @@ pub record Right (g : Guess) (x m : ℕ) (sec : Bool) (n : ℕ) : Type 0 where
   pub two : g .two ≡ sec
   pub size : g .length ≡ n
 
--- the guess, where y is what stands before place p of the first parcel
+-- the guess, y being the first parcel without what stands from place p on
 module _ (x m : ℕ) (x-below : x < 65536) (m-below : m < 65536) (p y : ℕ) (ws rest : List ℕ) where
   abbrev bytes : ℕ → ℕ
   bytes = bytesOf (textOf ws x m ++ rest)
