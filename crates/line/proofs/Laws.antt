@@ -15,11 +15,12 @@ use Rattle.text.specs.Report.{Wrote}
 use Rattle.text.proofs.Writing.{then, wrote-byte, wrote-digits}
 use Rattle.spelling.specs.Words.{operandText}
 use Rattle.spelling.specs.Spelling.{passing, spelling, wordsOf}
-use Rattle.spelling.specs.Rows.{rowWords, within, row0014, row001, row002, row023, plainRows, rowBy, rowOf, formAt, operandsIn, codeAt, nth, operandIn, formTable, operandTable}
+use Rattle.spelling.specs.Rows.{rowWords, plainRows, rowBy, formAt, operandsIn, codeAt, nth, operandIn, formTable, operandTable}
 use Rattle.spelling.specs.declared.Operand.{Operand}
 use Rattle.spelling.specs.declared.Operand.the-variants.{Register, Constant}
 use Rattle.spelling.specs.declared.Instruction.the-variants.{OfOne, OfTwo, OfThree}
 use Rattle.spelling.proofs.Entries.{entry, every, every-at}
+pub use Rattle.spelling.proofs.Table.{row-small}
 
 -- n is none of the numbers below k, nested as a match's `.rest` is: the last is outermost
 abbrev pub NoneBelow : ℕ → ℕ → Type 0
@@ -77,13 +78,9 @@ module _ (c i j k : ℕ) where
         ne-eqb _ _ n177,
       )
 
--- numbers that a computed test finds small: the rows, and the codes of operands
+-- numbers that a computed test finds small: rows, and the codes of operands
 below : (f : ℕ → ℕ) (n most : ℕ) → every (λ k. ltb (f k) most) n ≡ true → (k : ℕ) → k < n → f k < most
 below f n most t k h = ltb-true (f k) most (every-at (λ k. ltb (f k) most) n t k h)
-
-pub row-small : (x : ℕ) → x < 65536 → rowOf x < 107
-unfolding every rowOf rowBy within row001 row0014 row002 row023
-row-small = below rowOf 65536 107 refl
 
 pub plain-small : (c : ℕ) → c < 128 → getD plainRows c 0 < 107
 unfolding every

@@ -10,7 +10,7 @@ use Rattle.text.specs.Digits.{digits, shown, placesOf, widthOf, glyphOf}
 use Rattle.spelling.specs.Words.{signs, operandOf, operandText, textOf}
 use Rattle.spelling.specs.Spelling.{passing, spelling, wordsOf, wordsOfCode, eitherMode}
 use Rattle.spelling.specs.Listing.{lineOf}
-use Rattle.readback.proofs.Finite.{same, isNone}
+use Rattle.spelling.proofs.Table.{same}
 
 -- the line that two parcels are to have
 pub data Example : Type 0 where
@@ -131,13 +131,17 @@ allRight [] = true
 allRight (line x m text ∷ more) = same (lineOf x m) (signs text ++ (10 ∷ [])) && allRight more
 
 pub examples-right : allRight examples ≡ true
-unfolding lineOf wordsOf codeOf code001 code002 spelling passing textOf operandOf operandText digits shown placesOf widthOf glyphOf
+unfolding same lineOf wordsOf codeOf code001 code002 spelling passing textOf operandOf operandText digits shown placesOf widthOf glyphOf
 examples-right = refl
 
 -- how many of 0, 1, .., n - 1 are so
 unfoldable pub howMany : (ℕ → Bool) → ℕ → ℕ
 howMany f zero = 0
 howMany f (suc n) = howMany f n + bit (f n)
+
+abbrev pub isNone : List ℕ → Bool
+isNone [] = true
+isNone (w ∷ ws) = false
 
 abbrev pub held : Code → Bool
 held None = false

@@ -1,8 +1,9 @@
-pub mod Shape
+pub mod Numbers
+pub mod Simple
+pub mod Places
+pub mod Row
+pub mod Sum
 pub mod Finite
-pub mod Found
-pub mod Digits
-pub mod Scanned
 pub mod Guessed
 pub mod Stands
 pub mod Good

@@ -10,30 +10,31 @@ use lib.ListN.{length, getD}
 use lib.Seq.{sets}
 use lib.Dec.{leb}
 use Rattle.machine.specs.Word.{pick}
-use Rattle.spelling.specs.Spelling.{wordsOf, second}
+use Rattle.spelling.specs.Spelling.{second}
 use Rattle.spelling.specs.Listing.{dataLine, lineOf, listOf, listed, roomListed, listedNumbers}
-use Rattle.spelling.specs.Candidate.{lineLength, guessOf}
-use Rattle.spelling.specs.Assembling.{Good, Bad, readLine, Reading, All, Wrong, readOf, assembledTo, roomAfter, assembled, roomAssembled, assembledNumbers}
-use Rattle.spelling.specs.declared.Guess.{Guess}
+use Rattle.spelling.specs.Candidate.{Guess, guessOf}
+use Rattle.spelling.specs.Assembling.{lineLength, Good, Bad, readLine, Reading, All, Wrong, readOf, assembledTo, roomAfter, assembled, roomAssembled, assembledNumbers}
 use Rattle.spelling.specs.declared.Assembled.{Assembled}
 use Rattle.spelling.specs.declared.Assembled.the-variants.{Parcels, Overfull}
 use Rattle.spelling.specs.declared.Listed.{Listed}
 use Rattle.spelling.specs.declared.Listed.the-variants.{Bytes, TooLong}
-use Rattle.readback.proofs.Guessed.{line-first, line-two, line-spelled, data-first, data-data}
+use Rattle.readback.proofs.Guessed.{line-first, line-two, line-one, data-guess}
 use Rattle.readback.proofs.Stands.{Below, Stands, last, Broken}
 use Rattle.readback.proofs.Good.{good-stands, stands-good, bad-stands, none-bad, data-early}
 use Rattle.readback.proofs.Whole.{stands-ends, read-lists, list-reads, wrong-broken, broken-wrong}
 
 -- every line that is listed is guessed right, whatever follows it: of an instruction of two parcels, of one, and of data
 module _ (x m : ℕ) (x-below : x < 65536) (m-below : m < 65536) (rest : List ℕ) where
-  pub guess-of-two : second x ≡ true → guessOf (lineOf x m ++ rest) ≡ record { first = x; second = m; as_data = false }
+  pub guess-of-two : second x ≡ true → guessOf (lineOf x m ++ rest) ≡ record { first = x; second = m; two = true; length = length (lineOf x m) }
   guess-of-two = line-two x m x-below m-below rest
 
-  pub guess-of-one : (wordsOf x ≡ [] → ⊥) → (guessOf (lineOf x m ++ rest) .first ≡ x) × (guessOf (lineOf x m ++ rest) .as_data ≡ false)
-  guess-of-one is = (line-first x m x-below m-below rest, line-spelled x m x-below m-below rest is)
+  pub guess-of-one : second x ≡ false
+      → (guessOf (lineOf x m ++ rest) .first ≡ x) × (guessOf (lineOf x m ++ rest) .two ≡ false) × (guessOf (lineOf x m ++ rest) .length ≡ length (lineOf x m))
+  guess-of-one = line-one x m x-below m-below rest
 
-pub guess-of-data : (x : ℕ) → x < 65536 → (rest : List ℕ) → (guessOf (dataLine x ++ rest) .first ≡ x) × (guessOf (dataLine x ++ rest) .as_data ≡ true)
-guess-of-data x below rest = (data-first x below rest, data-data x below rest)
+pub guess-of-data : (x : ℕ) → x < 65536 → (rest : List ℕ)
+    → (guessOf (dataLine x ++ rest) .first ≡ x) × (guessOf (dataLine x ++ rest) .two ≡ false) × (guessOf (dataLine x ++ rest) .length ≡ length (dataLine x))
+guess-of-data = data-guess
 
 -- so no two instructions share a line
 module _ (x m y n : ℕ) (x-below : x < 65536) (m-below : m < 65536) (y-below : y < 65536) (n-below : n < 65536) (e : lineOf x m ≡ lineOf y n) where
@@ -98,6 +99,7 @@ module _ (text room : List ℕ) where
       fits : (ps : List ℕ) (b : Bool) → (getD (assembledNumbers (pick b (Parcels (length ps)) Overfull)) 0 0 ≡ 0 → ⊥) → pick b (sets room 0 ps) room ≡ room
       fits ps true h = absurd (h refl)
       fits ps false h = refl
+
       go : (r : Reading) → (getD (assembledNumbers (assembledTo room r)) 0 0 ≡ 0 → ⊥) → roomAfter room r ≡ room
       go (All ps) h = fits ps (leb (length ps) (length room)) h
       go (Wrong n) h = refl

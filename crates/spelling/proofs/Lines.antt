@@ -102,7 +102,7 @@ signsIn [] = 0
 signsIn (w ∷ ws) = pick (ltb w 128) (suc (signsIn ws)) (signsIn ws)
 
 -- how long the text of an operand, of a word and of words can be
-fieldMost : ℕ → ℕ
+unfoldable pub fieldMost : ℕ → ℕ
 fieldMost f = getD (1 ∷ 1 ∷ 1 ∷ 1 ∷ 1 ∷ 2 ∷ 8 ∷ 8 ∷ []) f 1
 
 operandMost : ℕ → ℕ
@@ -173,20 +173,20 @@ spelled-row r x m h =
 
 -- how long lines are --
 
-field-most : (f x m : ℕ) → m < 65536 → (0 < fieldMost f) × (fieldOf f x m < 8 ^ fieldMost f)
+pub field-most : (f x m : ℕ) → m < 65536 → (0 < fieldMost f) × (fieldMost f ≤ 8) × (fieldOf f x m < 8 ^ fieldMost f)
 unfolding fieldMost
-field-most zero x m h = (omega arith, omega arith)
-field-most (suc zero) x m h = (omega arith, omega arith)
-field-most (suc (suc zero)) x m h = (omega arith, omega arith)
-field-most (suc (suc (suc zero))) x m h = (omega arith, omega arith)
-field-most (suc (suc (suc (suc zero)))) x m h = (omega arith, omega arith)
-field-most (suc (suc (suc (suc (suc zero))))) x m h = (omega arith, omega arith)
-field-most (suc (suc (suc (suc (suc (suc zero)))))) x m h = (omega arith, omega arith)
-field-most (suc (suc (suc (suc (suc (suc (suc zero))))))) x m h = (omega arith, omega arith)
-field-most (suc (suc (suc (suc (suc (suc (suc (suc f)))))))) x m h = (omega arith, omega arith)
+field-most zero x m h = omega arith
+field-most (suc zero) x m h = omega arith
+field-most (suc (suc zero)) x m h = omega arith
+field-most (suc (suc (suc zero))) x m h = omega arith
+field-most (suc (suc (suc (suc zero)))) x m h = omega arith
+field-most (suc (suc (suc (suc (suc zero))))) x m h = omega arith
+field-most (suc (suc (suc (suc (suc (suc zero)))))) x m h = omega arith
+field-most (suc (suc (suc (suc (suc (suc (suc zero))))))) x m h = omega arith
+field-most (suc (suc (suc (suc (suc (suc (suc (suc f)))))))) x m h = omega arith
 
 -- an octal number below 8 ^ k has at most k digits
-octal-most : (n k : ℕ) → 0 < k → n < 8 ^ k → length (shown 8 1 n) ≤ k
+pub octal-most : (n k : ℕ) → 0 < k → n < 8 ^ k → length (shown 8 1 n) ≤ k
 octal-most n zero some h = absurd (omega arith)
 octal-most n (suc k) some h = shown-most 8 (omega arith) 1 n k h (omega arith)
 
@@ -196,7 +196,7 @@ unfolding operandText operandOf operandMost
 operand-most c x m h = go (eqb (c / 8) 0) (eqb (c / 8) 1) (eqb (c / 8) 2)
   where
     number : length (shown 8 1 (fieldOf (c % 8) x m)) ≤ fieldMost (c % 8)
-    number = let field = field-most (c % 8) x m h in octal-most _ _ (field .0) (field .1)
+    number = let field = field-most (c % 8) x m h in octal-most _ _ (field .0) (field .2)
 
     go : (a b d : Bool)
         → length (operandText (pick a (Constant (fieldOf (c % 8) x m)) (pick b (Indexed (fieldOf (c % 8) x m) (x / 512 % 8)) (pick d (Constant (64 - fieldOf (c % 8) x m)) (Register (c / 8) (fieldOf (c % 8) x m) (eqb (c % 8) 5))))))

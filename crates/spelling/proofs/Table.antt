@@ -5,8 +5,8 @@ use mathlib.Core.Bool.{Bool, true, false, _&&_, not}
 use mathlib.Core.List.{List, [], _∷_}
 use native.Mathlib.Omega.{arith}
 use lib.ListN.{length, getD}
-use lib.Dec.{eqb, leb}
-use borrow.Author.Tests.{eqb-true, leb-false}
+use lib.Dec.{eqb, ltb, leb}
+use borrow.Author.Tests.{eqb-true, ltb-true, leb-false}
 use Rattle.machine.specs.Word.{pick}
 use Rattle.machine.specs.Parcel.{iOf, jOf, kOf}
 use Rattle.machine.specs.Codes.{Code, None, rows, every as each, codeOf, code001, code002}
@@ -15,7 +15,7 @@ use Rattle.spelling.specs.Rows.{rowWords, rowOf, rowBy, within, row001, 
 use Rattle.spelling.proofs.Entries.{both-hold, every, every-at}
 
 -- two lists, and two truths, are the same
-same : List ℕ → List ℕ → Bool
+unfoldable pub same : List ℕ → List ℕ → Bool
 same [] [] = true
 same [] (y ∷ ys) = false
 same (x ∷ xs) [] = false
@@ -24,7 +24,7 @@ same (x ∷ xs) (y ∷ ys) = eqb x y && same xs ys
 different : {A : Type 0} → false ≡ true → A
 different e = let z : _≡_ {A = ℕ} 0 1 = cc in absurd (omega arith)
 
-same-eq : (xs ys : List ℕ) → same xs ys ≡ true → xs ≡ ys
+pub same-eq : (xs ys : List ℕ) → same xs ys ≡ true → xs ≡ ys
 unfolding same
 same-eq [] [] e = refl
 same-eq [] (y ∷ ys) e = different e
@@ -129,3 +129,11 @@ module _ (x : ℕ) (h : x < 65536) where
 
   pub second-of-row : second x ≡ secondRow (rowOf x)
   second-of-row = alike-eq _ _ (both .1)
+
+-- it is one of 107
+all-rows : every (λ x. ltb (rowOf x) 107) 65536 ≡ true
+unfolding every rowOf rowBy within row001 row0014 row002 row023
+all-rows = refl
+
+pub row-small : (x : ℕ) → x < 65536 → rowOf x < 107
+row-small x h = ltb-true (rowOf x) 107 (every-at (λ x. ltb (rowOf x) 107) 65536 all-rows x h)
