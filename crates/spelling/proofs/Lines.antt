@@ -3,7 +3,6 @@ use Prim.Native.Nat.{ℕ, zero, suc, _+_, _-_, _*_, _/_, _%_, _^_, _≤_, _<_}
 use mathlib.Core.Path.{_≡_, refl, sym, _∙_, ap}
 use mathlib.Core.Bool.{Bool, true, false, _&&_, not}
 use mathlib.Core.List.{List, [], _∷_, _++_, map, append-assoc}
-use native.Mathlib.Nat.{zero-add, add-zero}
 use native.Mathlib.Omega.{arith}
 use lib.ListN.{length, getD, drop, length-append}
 use lib.Dec.{eqb, ltb, leb}
@@ -16,7 +15,8 @@ use Rattle.text.proofs.Length.{shown-most}
 use Rattle.spelling.specs.Words.{fieldOf, operandOf, operandText, wordText, textOf, signs}
 use Rattle.spelling.specs.Spelling.{passing, spelling, wordsOf}
 use Rattle.spelling.specs.Listing.{dataLine, lineWith, lineOf}
-use Rattle.spelling.specs.Rows.{rowWords, rowOf, mark, operandsIn, codeAt, formTable, withCodes, instructionOf, rowIn, operandsHeld, signsOf, afterSigns, Ends, partsOf, filled, spelledOf, Small, Fills, Spells}
+use Rattle.spelling.specs.Rows.{rowWords, rowOf, mark, operandsIn, codeAt, formTable, withCodes, instructionOf, rowIn, operandsHeld}
+use Rattle.spelling.specs.Rows.{signsOf, afterSigns, Ends, partsOf, filled, spelledOf, Small, Fills, Spells}
 use Rattle.spelling.specs.declared.Operand.{Operand}
 use Rattle.spelling.specs.declared.Operand.the-variants.{Register, Constant, Indexed}
 use Rattle.spelling.specs.declared.Instruction.{Instruction}
@@ -31,20 +31,20 @@ pub nonzero : List ℕ → Bool
 nonzero [] = true
 nonzero (a ∷ l) = not (eqb a 0) && nonzero l
 
+first-is : (a : ℕ) (l : List ℕ) → nonzero (a ∷ l) ≡ true → (eqb a 0 ≡ false) × (nonzero l ≡ true)
+unfolding nonzero
+first-is a l e = let t = both-hold (not (eqb a 0)) (nonzero l) e in (not-true (eqb a 0) (t .0), t .1)
+
+operandsOf : ℕ → ℕ → List ℕ → List Operand
+operandsOf x m [] = []
+operandsOf x m (a ∷ l) = operandOf a x m ∷ operandsOf x m l
+
 -- instructions made of at most four codes hold their operands in order
 module _ (r x m : ℕ) where
   made : List ℕ → Instruction
   made l = withCodes r (getD l 0 0) (getD l 1 0) (getD l 2 0) (getD l 3 0) x m
 
-  operandsOf : List ℕ → List Operand
-  operandsOf [] = []
-  operandsOf (a ∷ l) = operandOf a x m ∷ operandsOf l
-
-  first-is : (a : ℕ) (l : List ℕ) → nonzero (a ∷ l) ≡ true → (eqb a 0 ≡ false) × (nonzero l ≡ true)
-  unfolding nonzero
-  first-is a l e = let t = both-hold (not (eqb a 0)) (nonzero l) e in (not-true (eqb a 0) (t .0), t .1)
-
-  operands-made : (l : List ℕ) → nonzero l ≡ true → length l ≤ 4 → operandsHeld (made l) ≡ operandsOf l
+  operands-made : (l : List ℕ) → nonzero l ≡ true → length l ≤ 4 → operandsHeld (made l) ≡ operandsOf x m l
   unfolding made withCodes operandsHeld operandsOf
   operands-made [] e few = refl
   operands-made (a ∷ []) e few = let s = first-is a [] e in rw (s .0)
@@ -86,18 +86,18 @@ clear-rest : (w : ℕ) (ws : List ℕ) → clear (w ∷ ws) ≡ true → clear w
 unfolding clear
 clear-rest w ws e = both-hold (pick (ltb w 128) (not (eqb w 0) && not (eqb w 10)) true) (clear ws) e .1
 
--- what lies past the newline does not count
-module _ (r x m : ℕ) (past : List ℕ) where
-  formOf : List ℕ → List ℕ
-  formOf ws = map mark ws ++ (10 ∷ past)
+-- the form of words, where `past` follows its newline, which does not count
+abbrev formOf : List ℕ → List ℕ → List ℕ
+formOf past ws = map mark ws ++ (10 ∷ past)
 
-  words-filled : (ws : List ℕ) → clear ws ≡ true → filled (formOf ws) (operandsOf r x m (operandsIn ws)) ≡ textOf ws x m ++ (10 ∷ [])
-  unfolding formOf operandsOf operandsIn textOf signsOf afterSigns partsOf
+module _ (x m : ℕ) (past : List ℕ) where
+  words-filled : (ws : List ℕ) → clear ws ≡ true → filled (formOf past ws) (operandsOf x m (operandsIn ws)) ≡ textOf ws x m ++ (10 ∷ [])
+  unfolding operandsOf operandsIn textOf signsOf afterSigns partsOf
   words-filled [] e = refl
   words-filled (w ∷ ws) e =
-      let l = formOf ws in
+      let l = formOf past ws in
       let o = operandOf (w - 128) x m in
-      let os = operandsOf r x m (operandsIn ws) in
+      let os = operandsOf x m (operandsIn ws) in
       let more = words-filled ws (clear-rest w ws e) in
       by-first w ws e
       (λ s n t. rw (s, n, t) (ap (λ (k : List ℕ). w ∷ k) more))
@@ -177,19 +177,18 @@ row-is r h =
       none = alike-eq _ _ (w .1);
     }
 
--- an instruction of a row has the row's form and operands, and spells its words
+-- an instruction of a row has the row's form and operands, and spells the row's words
 module _ (r x m : ℕ) (h : r < 107) where
-  operands-row : operandsHeld (instructionOf r x m) ≡ operandsOf r x m (operandsIn (rowWords r))
+  operands-row : operandsHeld (instructionOf r x m) ≡ operandsOf x m (operandsIn (rowWords r))
   unfolding instructionOf codeAt made
   operands-row = operands-made r x m (operandsIn (rowWords r)) (row-is r h .codes) (row-is r h .four)
 
-  form-row : drop (rowIn (instructionOf r x m) * 12) formTable ≡ formOf r x m (drop (r * 12 + suc (length (rowWords r))) formTable) (rowWords r)
-  unfolding formOf
+  form-row : drop (rowIn (instructionOf r x m) * 12) formTable ≡ formOf (drop (r * 12 + suc (length (rowWords r))) formTable) (rowWords r)
   form-row = let ten = row-is r h .ten in rw (row-made r x m) (form-bytes r h (omega (arith, ten)))
 
   pub spelled-row : spelledOf formTable (instructionOf r x m) ≡ textOf (rowWords r) x m ++ (10 ∷ [])
   unfolding spelledOf
-  spelled-row = rw (form-row, operands-row) (words-filled r x m _ (rowWords r) (row-is r h .clean))
+  spelled-row = rw (form-row, operands-row) (words-filled x m _ (rowWords r) (row-is r h .clean))
 
 -- how long lines are --
 
@@ -210,6 +209,14 @@ octal-most : (n k : ℕ) → 0 < k → n < 8 ^ k → length (shown 8 1 n) ≤ k
 octal-most n zero some h = absurd (omega arith)
 octal-most n (suc k) some h = shown-most 8 (omega arith) 1 n k h (omega arith)
 
+-- the operand of a code by the tests of its letter
+abbrev operandBy : ℕ → ℕ → ℕ → Bool → Bool → Bool → Operand
+operandBy c x m a b d =
+    pick a (Constant (fieldOf (c % 8) x m))
+    (pick b (Indexed (fieldOf (c % 8) x m) (x / 512 % 8))
+    (pick d (Constant (64 - fieldOf (c % 8) x m))
+    (Register (c / 8) (fieldOf (c % 8) x m) (eqb (c % 8) 5))))
+
 -- the text of an operand, of a word and of words
 operand-most : (c x m : ℕ) → m < 65536 → length (operandText (operandOf c x m)) ≤ operandMost c
 unfolding operandText operandOf operandMost
@@ -218,8 +225,7 @@ operand-most c x m h = go (eqb (c / 8) 0) (eqb (c / 8) 1) (eqb (c / 8) 2)
     number : length (shown 8 1 (fieldOf (c % 8) x m)) ≤ fieldMost (c % 8)
     number = let field = field-most (c % 8) x m h in octal-most _ _ (field .0) (field .1)
 
-    go : (a b d : Bool)
-        → length (operandText (pick a (Constant (fieldOf (c % 8) x m)) (pick b (Indexed (fieldOf (c % 8) x m) (x / 512 % 8)) (pick d (Constant (64 - fieldOf (c % 8) x m)) (Register (c / 8) (fieldOf (c % 8) x m) (eqb (c % 8) 5))))))
+    go : (a b d : Bool) → length (operandText (operandBy c x m a b d))
         ≤ pick a (fieldMost (c % 8)) (pick b (fieldMost (c % 8) + 3) (pick d 3 (1 + pick (eqb (c % 8) 5) 2 1)))
     go true b d = number
     go false true d =
@@ -250,7 +256,7 @@ text-least (w ∷ ws) x m = rw (length-append (wordText w x m) (textOf ws x m)) 
     go true more = omega arith
     go false more = omega arith
 
--- its operands are small, and each has its place --
+-- an instruction's operands are small, and each has its place in the form --
 
 small-operand : (c x m : ℕ) → m < 65536 → Small (operandOf c x m)
 unfolding operandOf
@@ -259,8 +265,7 @@ small-operand c x m h = go (eqb (c / 8) 0) (eqb (c / 8) 1) (eqb (c / 8) 2)
     number : fieldOf (c % 8) x m < 16777216
     number = field-most (c % 8) x m h .2
 
-    go : (a b d : Bool)
-        → Small (pick a (Constant (fieldOf (c % 8) x m)) (pick b (Indexed (fieldOf (c % 8) x m) (x / 512 % 8)) (pick d (Constant (64 - fieldOf (c % 8) x m)) (Register (c / 8) (fieldOf (c % 8) x m) (eqb (c % 8) 5)))))
+    go : (a b d : Bool) → Small (operandBy c x m a b d)
     go true b d = number
     go false true d = (number, omega arith)
     go false false true = omega arith
@@ -271,18 +276,18 @@ unfolding Fills Ends afterSigns
 sign-fills b l [] n t f = λ z e. f
 sign-fills b l (o ∷ os) n t f = ((λ z e. f .0), f .1, rw (n, t) (f .2))
 
-module _ (r x m : ℕ) (past : List ℕ) (low : m < 65536) where
-  words-fill : (ws : List ℕ) → clear ws ≡ true → Fills (formOf r x m past ws) (operandsOf r x m (operandsIn ws))
-  unfolding formOf operandsOf operandsIn Fills Ends afterSigns
+module _ (x m : ℕ) (past : List ℕ) (low : m < 65536) where
+  words-fill : (ws : List ℕ) → clear ws ≡ true → Fills (formOf past ws) (operandsOf x m (operandsIn ws))
+  unfolding operandsOf operandsIn Fills Ends afterSigns
   words-fill [] e = λ z t. absurd (t refl)
   words-fill (w ∷ ws) e =
       let more = words-fill ws (clear-rest w ws e) in
       by-first w ws e
-      (λ s n t. rw s (sign-fills w (formOf r x m past ws) (operandsOf r x m (operandsIn ws)) n t more))
+      (λ s n t. rw s (sign-fills w (formOf past ws) (operandsOf x m (operandsIn ws)) n t more))
       (λ s. rw s ((λ z t. absurd (z refl)), small-operand (w - 128) x m low, more))
 
 pub row-spells : (r x m : ℕ) → r < 107 → m < 65536 → Spells formTable (instructionOf r x m)
-row-spells r x m h low = rw (form-row r x m h, operands-row r x m h) (words-fill r x m _ low (rowWords r) (row-is r h .clean))
+row-spells r x m h low = rw (form-row r x m h, operands-row r x m h) (words-fill x m _ low (rowWords r) (row-is r h .clean))
 
 -- the line of an instruction --
 

@@ -1,13 +1,13 @@
--- How the program looks a parcel's row up. Nothing here has to be believed: what is proved of it is that it finds the words that
--- Spelling gives. Assumes nothing.
+-- How the program looks a parcel's row up, and writes the row's line. Nothing here has to be believed: what is proved of it is
+-- that it comes to the words that Spelling gives. Assumes nothing.
 use Prim.Native.Nat.{ℕ, zero, suc, _+_, _-_, _*_, _/_, _%_, _≤_, _<_}
 use mathlib.Core.Path.{_≡_}
-use mathlib.Core.Bool.{Bool, true, false, _&&_, _||_}
+use mathlib.Core.Bool.{Bool, _&&_, _||_}
 use mathlib.Core.List.{List, [], _∷_, _++_}
 use lib.ListN.{length, getD, drop}
 use lib.Dec.{eqb, ltb, leb}
 use Rattle.machine.specs.Word.{pick}
-use Rattle.machine.specs.Parcel.{iOf, jOf, kOf, jkOf}
+use Rattle.machine.specs.Parcel.{iOf, jOf, kOf}
 use Rattle.spelling.specs.Words.{operandOf, operandText}
 use Rattle.spelling.specs.Spelling.{wordsOf}
 use Rattle.spelling.specs.declared.Operand.{Operand}
@@ -194,13 +194,13 @@ filled l os = signsOf l ++ partsOf (afterSigns l) os
 unfoldable pub spelledOf : List ℕ → Instruction → List ℕ
 spelledOf forms ins = filled (drop (rowIn ins * 12) forms) (operandsHeld ins)
 
--- numbers of an operand that are small enough to be written by a program that counts on it: eight octal digits, and one
+-- an operand's numbers have at most eight octal digits, and that of an index one
 abbrev pub Small : Operand → Type 0
 Small (Register letter number wide) = Unit
 Small (Constant n) = n < 16777216
 Small (Indexed offset register) = (offset < 16777216) × (register < 8)
 
--- each operand is small and has its place in the form
+-- each operand is small, and has its place in the form
 unfoldable pub Fills : List ℕ → List Operand → Type 0
 Fills l [] = Ends l
 Fills l (o ∷ os) = Ends l × Small o × Fills (afterSigns l) os

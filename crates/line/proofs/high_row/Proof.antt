@@ -91,7 +91,10 @@ returns-12 c =
     let a = c .before .before .args in
     let n = c .before .match .rest in
     c .plain-row .ensures
-    ∙ sym (row-plain (a .c) (a .i) (a .j) (a .k) (c .before .before .pre .0) (n .0 .0 .0 .0 .0 .0 .0 .0 .1) (n .0 .0 .0 .0 .0 .0 .0 .1) (n .0 .0 .0 .0 .0 .0 .1) (n .0 .0 .0 .0 .0 .1) (n .0 .0 .0 .0 .1) (n .0 .0 .0 .1) (n .0 .0 .1) (n .0 .1) (n .1))
+    ∙ sym
+    (row-plain (a .c) (a .i) (a .j) (a .k) (c .before .before .pre .0)
+    (n .0 .0 .0 .0 .0 .0 .0 .0 .1) (n .0 .0 .0 .0 .0 .0 .0 .1) (n .0 .0 .0 .0 .0 .0 .1) (n .0 .0 .0 .0 .0 .1) (n .0 .0 .0 .0 .1)
+    (n .0 .0 .0 .1) (n .0 .0 .1) (n .0 .1) (n .1))
 
 pub high-row-spec : {M : Type 1} → statement M
 high-row-spec =

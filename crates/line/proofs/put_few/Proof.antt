@@ -77,7 +77,8 @@ same-length-3 c =
 returns-3 : tie.Need-returns-3
 returns-3 c =
     let n = c .before .before .before .before .before .before .before .before .args .n in
-    let text = shown-more n (c .before .before .before .before .before .before .if1 .left) ∙ ap (λ (l : List ℕ). l ++ digits 8 2 n) (shown-one (n / 64) (omega arith)) in
+    let big = c .before .before .before .before .before .before .if1 .left in
+    let text = shown-more n big ∙ ap (λ (l : List ℕ). l ++ digits 8 2 n) (shown-one (n / 64) (omega arith)) in
     wrote-as text (placed (then (wrote-digit (n / 64) _ (c .before .before .before .before .digit2 .ensures)) (c .before .before .put-two-digits2 .ensures)) (omega arith))
 
 put-two-digits-requires-3 : tie.Need-put-two-digits-requires-3
@@ -106,8 +107,10 @@ same-length-4 c = search needs
 returns-4 : tie.Need-returns-4
 returns-4 c =
     let n = c .before .before .before .before .before .before .before .before .before .before .before .args .n in
-    let text = shown-more n (c .before .before .before .before .before .before .before .before .before .if1 .left) ∙ ap (λ (l : List ℕ). l ++ digits 8 2 n) (shown-two (n / 64) (omega arith) (omega arith)) in
-    wrote-as text (placed (then (c .before .before .before .before .before .before .put-two-digits3 .ensures) (c .before .before .put-two-digits4 .ensures)) (omega arith))
+    let big = c .before .before .before .before .before .before .before .before .before .if1 .left in
+    let text = shown-more n big ∙ ap (λ (l : List ℕ). l ++ digits 8 2 n) (shown-two (n / 64) (omega arith) (omega arith)) in
+    let first = c .before .before .before .before .before .before .put-two-digits3 .ensures in
+    wrote-as text (placed (then first (c .before .before .put-two-digits4 .ensures)) (omega arith))
 
 pub put-few-spec : {M : Type 1} → statement M
 put-few-spec =

@@ -30,9 +30,11 @@ put-signs-requires-2 c κs = signs-fit (c .before .before .before .before .befor
 put-part-requires : tie.Need-put-part-requires
 unfolding rowIn operandsHeld
 put-part-requires c κs =
-    let t = c .before .before .before .put-signs2 in
-    let s = spelling (c .before .before .before .before .before .before .before .before .before .pre) (c .before .before .before .before .before .before .ins2 .given .1) (t .result .from) (t .ensures) (t .kept .0) in
-    part-fits s
+    let c0 = c .before .before .before in
+    let e = c0 .before .before .before in
+    let t = c0 .put-signs2 in
+    let s0 = spelling (e .before .before .before .pre) (e .ins2 .given .1) (t .result .from) (t .ensures) (t .kept .0) in
+    part-fits s0
 
 enum-known-ins-3 : tie.Need-enum-known-ins-3
 enum-known-ins-3 c = search needs
@@ -48,17 +50,21 @@ put-signs-requires-3 c κs = signs-fit (c .before .before .before .before .befor
 put-part-requires-2 : tie.Need-put-part-requires-2
 unfolding rowIn operandsHeld
 put-part-requires-2 c κs =
-    let t = c .before .before .before .put-signs3 in
-    let s = spelling (c .before .before .before .before .before .before .before .before .before .pre) (c .before .before .before .before .before .before .ins3 .given .1) (t .result .from) (t .ensures) (t .kept .0) in
-    part-fits s
+    let c0 = c .before .before .before in
+    let e = c0 .before .before .before in
+    let t = c0 .put-signs3 in
+    let s0 = spelling (e .before .before .before .pre) (e .ins3 .given .1) (t .result .from) (t .ensures) (t .kept .0) in
+    part-fits s0
 
 put-part-requires-3 : tie.Need-put-part-requires-3
 unfolding rowIn operandsHeld
 put-part-requires-3 c κs =
-    let t = c .before .before .before .before .before .before .before .put-signs3 in
-    let s = spelling (c .before .before .before .before .before .before .before .before .before .before .before .before .before .pre) (c .before .before .before .before .before .before .before .before .before .before .ins3 .given .1) (t .result .from) (t .ensures) (t .kept .0) in
-    let t1 = c .before .before .before .put-part2 in
-    let s1 = part-next (t1 .result .from) s (t1 .ensures) (t1 .kept .0) in
+    let c1 = c .before .before .before in
+    let c0 = c1 .before .before .before .before in
+    let e = c0 .before .before .before in
+    let t = c0 .put-signs3 in
+    let s0 = spelling (e .before .before .before .pre) (e .ins3 .given .1) (t .result .from) (t .ensures) (t .kept .0) in
+    let s1 = part-next (c1 .put-part2 .result .from) s0 (c1 .put-part2 .ensures) (c1 .put-part2 .kept .0) in
     part-fits s1
 
 enum-known-ins-4 : tie.Need-enum-known-ins-4
@@ -75,28 +81,34 @@ put-signs-requires-4 c κs = signs-fit (c .before .before .before .before .befor
 put-part-requires-4 : tie.Need-put-part-requires-4
 unfolding rowIn operandsHeld
 put-part-requires-4 c κs =
-    let t = c .before .before .before .put-signs4 in
-    let s = spelling (c .before .before .before .before .before .before .before .before .before .pre) (c .before .before .before .before .before .before .ins4 .given .1) (t .result .from) (t .ensures) (t .kept .0) in
-    part-fits s
+    let c0 = c .before .before .before in
+    let e = c0 .before .before .before in
+    let t = c0 .put-signs4 in
+    let s0 = spelling (e .before .before .before .pre) (e .ins4 .given .1) (t .result .from) (t .ensures) (t .kept .0) in
+    part-fits s0
 
 put-part-requires-5 : tie.Need-put-part-requires-5
 unfolding rowIn operandsHeld
 put-part-requires-5 c κs =
-    let t = c .before .before .before .before .before .before .before .put-signs4 in
-    let s = spelling (c .before .before .before .before .before .before .before .before .before .before .before .before .before .pre) (c .before .before .before .before .before .before .before .before .before .before .ins4 .given .1) (t .result .from) (t .ensures) (t .kept .0) in
-    let t1 = c .before .before .before .put-part4 in
-    let s1 = part-next (t1 .result .from) s (t1 .ensures) (t1 .kept .0) in
+    let c1 = c .before .before .before in
+    let c0 = c1 .before .before .before .before in
+    let e = c0 .before .before .before in
+    let t = c0 .put-signs4 in
+    let s0 = spelling (e .before .before .before .pre) (e .ins4 .given .1) (t .result .from) (t .ensures) (t .kept .0) in
+    let s1 = part-next (c1 .put-part4 .result .from) s0 (c1 .put-part4 .ensures) (c1 .put-part4 .kept .0) in
     part-fits s1
 
 put-part-requires-6 : tie.Need-put-part-requires-6
 unfolding rowIn operandsHeld
 put-part-requires-6 c κs =
-    let t = c .before .before .before .before .before .before .before .before .before .before .before .put-signs4 in
-    let s = spelling (c .before .before .before .before .before .before .before .before .before .before .before .before .before .before .before .before .before .pre) (c .before .before .before .before .before .before .before .before .before .before .before .before .before .before .ins4 .given .1) (t .result .from) (t .ensures) (t .kept .0) in
-    let t1 = c .before .before .before .before .before .before .before .put-part4 in
-    let s1 = part-next (t1 .result .from) s (t1 .ensures) (t1 .kept .0) in
-    let t2 = c .before .before .before .put-part5 in
-    let s2 = part-next (t2 .result .from) s1 (t2 .ensures) (t2 .kept .0) in
+    let c2 = c .before .before .before in
+    let c1 = c2 .before .before .before .before in
+    let c0 = c1 .before .before .before .before in
+    let e = c0 .before .before .before in
+    let t = c0 .put-signs4 in
+    let s0 = spelling (e .before .before .before .pre) (e .ins4 .given .1) (t .result .from) (t .ensures) (t .kept .0) in
+    let s1 = part-next (c1 .put-part4 .result .from) s0 (c1 .put-part4 .ensures) (c1 .put-part4 .kept .0) in
+    let s2 = part-next (c2 .put-part5 .result .from) s1 (c2 .put-part5 .ensures) (c2 .put-part5 .kept .0) in
     part-fits s2
 
 enum-known-ins-5 : tie.Need-enum-known-ins-5
@@ -113,41 +125,49 @@ put-signs-requires-5 c κs = signs-fit (c .before .before .before .before .befor
 put-part-requires-7 : tie.Need-put-part-requires-7
 unfolding rowIn operandsHeld
 put-part-requires-7 c κs =
-    let t = c .before .before .before .put-signs5 in
-    let s = spelling (c .before .before .before .before .before .before .before .before .before .pre) (c .before .before .before .before .before .before .ins5 .given .1) (t .result .from) (t .ensures) (t .kept .0) in
-    part-fits s
+    let c0 = c .before .before .before in
+    let e = c0 .before .before .before in
+    let t = c0 .put-signs5 in
+    let s0 = spelling (e .before .before .before .pre) (e .ins5 .given .1) (t .result .from) (t .ensures) (t .kept .0) in
+    part-fits s0
 
 put-part-requires-8 : tie.Need-put-part-requires-8
 unfolding rowIn operandsHeld
 put-part-requires-8 c κs =
-    let t = c .before .before .before .before .before .before .before .put-signs5 in
-    let s = spelling (c .before .before .before .before .before .before .before .before .before .before .before .before .before .pre) (c .before .before .before .before .before .before .before .before .before .before .ins5 .given .1) (t .result .from) (t .ensures) (t .kept .0) in
-    let t1 = c .before .before .before .put-part7 in
-    let s1 = part-next (t1 .result .from) s (t1 .ensures) (t1 .kept .0) in
+    let c1 = c .before .before .before in
+    let c0 = c1 .before .before .before .before in
+    let e = c0 .before .before .before in
+    let t = c0 .put-signs5 in
+    let s0 = spelling (e .before .before .before .pre) (e .ins5 .given .1) (t .result .from) (t .ensures) (t .kept .0) in
+    let s1 = part-next (c1 .put-part7 .result .from) s0 (c1 .put-part7 .ensures) (c1 .put-part7 .kept .0) in
     part-fits s1
 
 put-part-requires-9 : tie.Need-put-part-requires-9
 unfolding rowIn operandsHeld
 put-part-requires-9 c κs =
-    let t = c .before .before .before .before .before .before .before .before .before .before .before .put-signs5 in
-    let s = spelling (c .before .before .before .before .before .before .before .before .before .before .before .before .before .before .before .before .before .pre) (c .before .before .before .before .before .before .before .before .before .before .before .before .before .before .ins5 .given .1) (t .result .from) (t .ensures) (t .kept .0) in
-    let t1 = c .before .before .before .before .before .before .before .put-part7 in
-    let s1 = part-next (t1 .result .from) s (t1 .ensures) (t1 .kept .0) in
-    let t2 = c .before .before .before .put-part8 in
-    let s2 = part-next (t2 .result .from) s1 (t2 .ensures) (t2 .kept .0) in
+    let c2 = c .before .before .before in
+    let c1 = c2 .before .before .before .before in
+    let c0 = c1 .before .before .before .before in
+    let e = c0 .before .before .before in
+    let t = c0 .put-signs5 in
+    let s0 = spelling (e .before .before .before .pre) (e .ins5 .given .1) (t .result .from) (t .ensures) (t .kept .0) in
+    let s1 = part-next (c1 .put-part7 .result .from) s0 (c1 .put-part7 .ensures) (c1 .put-part7 .kept .0) in
+    let s2 = part-next (c2 .put-part8 .result .from) s1 (c2 .put-part8 .ensures) (c2 .put-part8 .kept .0) in
     part-fits s2
 
 put-part-requires-10 : tie.Need-put-part-requires-10
 unfolding rowIn operandsHeld
 put-part-requires-10 c κs =
-    let t = c .before .before .before .before .before .before .before .before .before .before .before .before .before .before .before .put-signs5 in
-    let s = spelling (c .before .before .before .before .before .before .before .before .before .before .before .before .before .before .before .before .before .before .before .before .before .pre) (c .before .before .before .before .before .before .before .before .before .before .before .before .before .before .before .before .before .before .ins5 .given .1) (t .result .from) (t .ensures) (t .kept .0) in
-    let t1 = c .before .before .before .before .before .before .before .before .before .before .before .put-part7 in
-    let s1 = part-next (t1 .result .from) s (t1 .ensures) (t1 .kept .0) in
-    let t2 = c .before .before .before .before .before .before .before .put-part8 in
-    let s2 = part-next (t2 .result .from) s1 (t2 .ensures) (t2 .kept .0) in
-    let t3 = c .before .before .before .put-part9 in
-    let s3 = part-next (t3 .result .from) s2 (t3 .ensures) (t3 .kept .0) in
+    let c3 = c .before .before .before in
+    let c2 = c3 .before .before .before .before in
+    let c1 = c2 .before .before .before .before in
+    let c0 = c1 .before .before .before .before in
+    let e = c0 .before .before .before in
+    let t = c0 .put-signs5 in
+    let s0 = spelling (e .before .before .before .pre) (e .ins5 .given .1) (t .result .from) (t .ensures) (t .kept .0) in
+    let s1 = part-next (c1 .put-part7 .result .from) s0 (c1 .put-part7 .ensures) (c1 .put-part7 .kept .0) in
+    let s2 = part-next (c2 .put-part8 .result .from) s1 (c2 .put-part8 .ensures) (c2 .put-part8 .kept .0) in
+    let s3 = part-next (c3 .put-part9 .result .from) s2 (c3 .put-part9 .ensures) (c3 .put-part9 .kept .0) in
     part-fits s3
 
 same-length : tie.Need-same-length
@@ -156,9 +176,11 @@ same-length c = search needs
 returns : tie.Need-returns
 unfolding rowIn operandsHeld
 returns c =
-    let t = c .before .before .put-signs in
-    let s = spelling (c .before .before .before .before .before .before .before .before .pre) (c .before .before .before .before .before .ins .given .1) (t .result .from) (t .ensures) (t .kept .0) in
-    all-parts s
+    let c0 = c .before .before in
+    let e = c0 .before .before .before in
+    let t = c0 .put-signs in
+    let s0 = spelling (e .before .before .before .pre) (e .ins .given .1) (t .result .from) (t .ensures) (t .kept .0) in
+    all-parts s0
 
 same-length-2 : tie.Need-same-length-2
 same-length-2 c = search needs
@@ -166,10 +188,12 @@ same-length-2 c = search needs
 returns-2 : tie.Need-returns-2
 unfolding rowIn operandsHeld
 returns-2 c =
-    let t = c .before .before .before .before .before .before .put-signs2 in
-    let s = spelling (c .before .before .before .before .before .before .before .before .before .before .before .before .pre) (c .before .before .before .before .before .before .before .before .before .ins2 .given .1) (t .result .from) (t .ensures) (t .kept .0) in
-    let t1 = c .before .before .put-part in
-    let s1 = part-next (t1 .result .from) s (t1 .ensures) (t1 .kept .0) in
+    let c1 = c .before .before in
+    let c0 = c1 .before .before .before .before in
+    let e = c0 .before .before .before in
+    let t = c0 .put-signs2 in
+    let s0 = spelling (e .before .before .before .pre) (e .ins2 .given .1) (t .result .from) (t .ensures) (t .kept .0) in
+    let s1 = part-next (c1 .put-part .result .from) s0 (c1 .put-part .ensures) (c1 .put-part .kept .0) in
     all-parts s1
 
 same-length-3 : tie.Need-same-length-3
@@ -178,12 +202,14 @@ same-length-3 c = search needs
 returns-3 : tie.Need-returns-3
 unfolding rowIn operandsHeld
 returns-3 c =
-    let t = c .before .before .before .before .before .before .before .before .before .before .put-signs3 in
-    let s = spelling (c .before .before .before .before .before .before .before .before .before .before .before .before .before .before .before .before .pre) (c .before .before .before .before .before .before .before .before .before .before .before .before .before .ins3 .given .1) (t .result .from) (t .ensures) (t .kept .0) in
-    let t1 = c .before .before .before .before .before .before .put-part2 in
-    let s1 = part-next (t1 .result .from) s (t1 .ensures) (t1 .kept .0) in
-    let t2 = c .before .before .put-part3 in
-    let s2 = part-next (t2 .result .from) s1 (t2 .ensures) (t2 .kept .0) in
+    let c2 = c .before .before in
+    let c1 = c2 .before .before .before .before in
+    let c0 = c1 .before .before .before .before in
+    let e = c0 .before .before .before in
+    let t = c0 .put-signs3 in
+    let s0 = spelling (e .before .before .before .pre) (e .ins3 .given .1) (t .result .from) (t .ensures) (t .kept .0) in
+    let s1 = part-next (c1 .put-part2 .result .from) s0 (c1 .put-part2 .ensures) (c1 .put-part2 .kept .0) in
+    let s2 = part-next (c2 .put-part3 .result .from) s1 (c2 .put-part3 .ensures) (c2 .put-part3 .kept .0) in
     all-parts s2
 
 same-length-4 : tie.Need-same-length-4
@@ -192,14 +218,16 @@ same-length-4 c = search needs
 returns-4 : tie.Need-returns-4
 unfolding rowIn operandsHeld
 returns-4 c =
-    let t = c .before .before .before .before .before .before .before .before .before .before .before .before .before .before .put-signs4 in
-    let s = spelling (c .before .before .before .before .before .before .before .before .before .before .before .before .before .before .before .before .before .before .before .before .pre) (c .before .before .before .before .before .before .before .before .before .before .before .before .before .before .before .before .before .ins4 .given .1) (t .result .from) (t .ensures) (t .kept .0) in
-    let t1 = c .before .before .before .before .before .before .before .before .before .before .put-part4 in
-    let s1 = part-next (t1 .result .from) s (t1 .ensures) (t1 .kept .0) in
-    let t2 = c .before .before .before .before .before .before .put-part5 in
-    let s2 = part-next (t2 .result .from) s1 (t2 .ensures) (t2 .kept .0) in
-    let t3 = c .before .before .put-part6 in
-    let s3 = part-next (t3 .result .from) s2 (t3 .ensures) (t3 .kept .0) in
+    let c3 = c .before .before in
+    let c2 = c3 .before .before .before .before in
+    let c1 = c2 .before .before .before .before in
+    let c0 = c1 .before .before .before .before in
+    let e = c0 .before .before .before in
+    let t = c0 .put-signs4 in
+    let s0 = spelling (e .before .before .before .pre) (e .ins4 .given .1) (t .result .from) (t .ensures) (t .kept .0) in
+    let s1 = part-next (c1 .put-part4 .result .from) s0 (c1 .put-part4 .ensures) (c1 .put-part4 .kept .0) in
+    let s2 = part-next (c2 .put-part5 .result .from) s1 (c2 .put-part5 .ensures) (c2 .put-part5 .kept .0) in
+    let s3 = part-next (c3 .put-part6 .result .from) s2 (c3 .put-part6 .ensures) (c3 .put-part6 .kept .0) in
     all-parts s3
 
 same-length-5 : tie.Need-same-length-5
@@ -208,16 +236,18 @@ same-length-5 c = search needs
 returns-5 : tie.Need-returns-5
 unfolding rowIn operandsHeld
 returns-5 c =
-    let t = c .before .before .before .before .before .before .before .before .before .before .before .before .before .before .before .before .before .before .put-signs5 in
-    let s = spelling (c .before .before .before .before .before .before .before .before .before .before .before .before .before .before .before .before .before .before .before .before .before .before .before .before .pre) (c .before .before .before .before .before .before .before .before .before .before .before .before .before .before .before .before .before .before .before .before .before .ins5 .given .1) (t .result .from) (t .ensures) (t .kept .0) in
-    let t1 = c .before .before .before .before .before .before .before .before .before .before .before .before .before .before .put-part7 in
-    let s1 = part-next (t1 .result .from) s (t1 .ensures) (t1 .kept .0) in
-    let t2 = c .before .before .before .before .before .before .before .before .before .before .put-part8 in
-    let s2 = part-next (t2 .result .from) s1 (t2 .ensures) (t2 .kept .0) in
-    let t3 = c .before .before .before .before .before .before .put-part9 in
-    let s3 = part-next (t3 .result .from) s2 (t3 .ensures) (t3 .kept .0) in
-    let t4 = c .before .before .put-part10 in
-    let s4 = part-next (t4 .result .from) s3 (t4 .ensures) (t4 .kept .0) in
+    let c4 = c .before .before in
+    let c3 = c4 .before .before .before .before in
+    let c2 = c3 .before .before .before .before in
+    let c1 = c2 .before .before .before .before in
+    let c0 = c1 .before .before .before .before in
+    let e = c0 .before .before .before in
+    let t = c0 .put-signs5 in
+    let s0 = spelling (e .before .before .before .pre) (e .ins5 .given .1) (t .result .from) (t .ensures) (t .kept .0) in
+    let s1 = part-next (c1 .put-part7 .result .from) s0 (c1 .put-part7 .ensures) (c1 .put-part7 .kept .0) in
+    let s2 = part-next (c2 .put-part8 .result .from) s1 (c2 .put-part8 .ensures) (c2 .put-part8 .kept .0) in
+    let s3 = part-next (c3 .put-part9 .result .from) s2 (c3 .put-part9 .ensures) (c3 .put-part9 .kept .0) in
+    let s4 = part-next (c4 .put-part10 .result .from) s3 (c4 .put-part10 .ensures) (c4 .put-part10 .kept .0) in
     all-parts s4
 
 pub put-instruction-spec : {M : Type 1} → statement M

@@ -54,7 +54,9 @@ returns-2 c =
     let few = c .before .before .before .before .before .before .before .before .before .before .put-few2 .ensures in
     let two = c .before .before .before .before .before .before .put-two-digits .ensures in
     let last = c .before .before .put-two-digits2 .ensures in
-    wrote-as (shown-many (c .before .before .before .before .before .before .before .before .before .before .before .before .before .before .args .n) (c .before .before .before .before .before .before .before .before .before .before .before .before .if1 .left)) (placed (then (then few two) last) (omega arith))
+    let n = c .before .before .before .before .before .before .before .before .before .before .before .before .before .before .args .n in
+    let big = c .before .before .before .before .before .before .before .before .before .before .before .before .if1 .left in
+    wrote-as (shown-many n big) (placed (then (then few two) last) (omega arith))
 
 pub put-octal-spec : {M : Type 1} → statement M
 put-octal-spec =
