@@ -20,7 +20,7 @@ pub octal-glyph : (n : ℕ) → 48 + n % 8 ≡ glyphOf (n % 8)
 unfolding glyphOf
 octal-glyph n = rw (lt-ltb (n % 8) 10 (omega arith))
 
-pub digits-two : (k n : ℕ) → digits 8 (suc (suc k)) n ≡ digits 8 k (n / 64) ++ digits 8 2 n
+digits-two : (k n : ℕ) → digits 8 (suc (suc k)) n ≡ digits 8 k (n / 64) ++ digits 8 2 n
 unfolding digits
 digits-two k n =
     let e : n / 8 / 8 ≡ n / 64 = omega arith in
@@ -94,11 +94,10 @@ long-many n h =
 pub placed : {d m xs : List ℕ} {at r q : ℕ} → Wrote d at xs m r → r ≡ q → Wrote d at xs m q
 placed w e = record { bytes = w .bytes; place = sym e ∙ w .place }
 
-pub then-at : {d m k xs ys : List ℕ} {at r to q : ℕ} → Wrote d at xs m r → Wrote m to ys k q → r ≡ to → Wrote d at (xs ++ ys) k q
+then-at : {d m k xs ys : List ℕ} {at r to q : ℕ} → Wrote d at xs m r → Wrote m to ys k q → r ≡ to → Wrote d at (xs ++ ys) k q
 then-at w v e = then (placed w e) v
 
 -- digits written
-
 pub wrote-digit : {d : List ℕ} {at : ℕ} (n a : ℕ) → a ≡ glyphOf (n % 8) → Wrote d at (glyphOf (n % 8) ∷ []) (set d at a) (at + 1)
 wrote-digit {d} {at} n a e = wrote-byte (ap (λ (b : ℕ). set d at b) e)
 
@@ -108,7 +107,7 @@ unfolding digits
 wrote-two n a b t e f = placed (then-at (wrote-digit (n / 8) a e) (wrote-digit n b f) (sym t)) (omega arith)
 
 -- an indexed place: its register has one digit
-pub place-text : (offset register : ℕ) → register < 8
+place-text : (offset register : ℕ) → register < 8
     → operandText (Indexed offset register) ≡ shown 8 1 offset ++ (44 ∷ 65 ∷ glyphOf (register % 8) ∷ [])
 unfolding operandText
 place-text offset register h = rw (shown-one register h)

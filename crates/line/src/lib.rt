@@ -672,7 +672,8 @@ struct Cut {
 // The signs of a form from a place on, up to an operand or with the newline.
 fn put_signs(line: &mut [u8], at: usize, forms: &[u8; 1284], from: usize) -> Cut
     requires { ⌜ Ends (drop from (now forms)) × (at + length (signsOf (drop from (now forms))) ≤ length (now line)) × (length (now forms) ≡ 1284) ⌝ }
-    ensures { λ r. ⌜ Wrote (now (line .entry)) at (signsOf (drop from (now (forms .entry)))) (now (line .exit)) (r .at) × (drop (r .from) (now (forms .entry)) ≡ afterSigns (drop from (now (forms .entry)))) ⌝ }
+    ensures { λ r. ⌜ Wrote (now (line .entry)) at (signsOf (drop from (now (forms .entry)))) (now (line .exit)) (r .at) ⌝ }
+    ensures { λ r. ⌜ drop (r .from) (now (forms .entry)) ≡ afterSigns (drop from (now (forms .entry))) ⌝ }
 {
     let mut to = at;
     let mut p = from;
@@ -693,7 +694,8 @@ fn put_signs(line: &mut [u8], at: usize, forms: &[u8; 1284], from: usize) -> Cut
 // An operand, and the signs after it.
 fn put_part(line: &mut [u8], forms: &[u8; 1284], cut: Cut, op: Operand) -> Cut
     requires { ⌜ Ends (drop (cut .from) (now forms)) × Small op × (cut .at + length (operandText op ++ signsOf (drop (cut .from) (now forms))) ≤ length (now line)) × (length (now forms) ≡ 1284) ⌝ }
-    ensures { λ r. ⌜ Wrote (now (line .entry)) (cut .at) (operandText op ++ signsOf (drop (cut .from) (now (forms .entry)))) (now (line .exit)) (r .at) × (drop (r .from) (now (forms .entry)) ≡ afterSigns (drop (cut .from) (now (forms .entry)))) ⌝ }
+    ensures { λ r. ⌜ Wrote (now (line .entry)) (cut .at) (operandText op ++ signsOf (drop (cut .from) (now (forms .entry)))) (now (line .exit)) (r .at) ⌝ }
+    ensures { λ r. ⌜ drop (r .from) (now (forms .entry)) ≡ afterSigns (drop (cut .from) (now (forms .entry))) ⌝ }
 {
     let end = put_operand(line, cut.at, op);
     put_signs(line, end, forms, cut.from)

@@ -102,10 +102,10 @@ module _ (x m : ℕ) (past : List ℕ) where
       by-first w ws e
       (λ s n t. rw (s, n, t) (ap (λ (k : List ℕ). w ∷ k) more))
       (λ s.
-        rw s
-        (append-assoc (operandText o) (signsOf l) (partsOf (afterSigns l) os)
-        ∙ ap (λ (k : List ℕ). operandText o ++ k) more
-        ∙ sym (append-assoc (operandText o) (textOf ws x m) (10 ∷ []))))
+      rw s
+      (append-assoc (operandText o) (signsOf l) (partsOf (afterSigns l) os)
+      ∙ ap (λ (k : List ℕ). operandText o ++ k) more
+      ∙ sym (append-assoc (operandText o) (textOf ws x m) (10 ∷ []))))
 
 -- of each row the words are few, the operands at most four, none with the code 0, the signs clear, and at least one
 pub signsIn : List ℕ → ℕ
