@@ -177,7 +177,7 @@ fn put_cal(out: &mut [u8], at: usize, row: u64, x: u64, m: u64) -> usize
     let forms = line::forms();
     let operands = line::operands();
     let mut line = [0u8; 16];
-    let n = line::put_line(&mut line, &forms, &operands, row, x, m);
+    let n = line::put_line(&mut line, 0, &forms, &operands, row, x, m);
     text::put_text(out, at, &line[..n])
 }
 
@@ -187,7 +187,7 @@ fn put_data(out: &mut [u8], at: usize, x: u64) -> usize
     ensures { λ r. ⌜ Wrote (now (out .entry)) at (dataLine x) (now (out .exit)) r × (r ≤ at + 16) ⌝ }
 {
     let mut line = [0u8; 16];
-    let n = line::put_data(&mut line, x);
+    let n = line::put_data(&mut line, 0, x);
     text::put_text(out, at, &line[..n])
 }
 

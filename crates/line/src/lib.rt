@@ -1,11 +1,14 @@
 // The line of an instruction: its row in the table of forms, its operands, its text.
 ghost use mathlib.Core.Path.{_≡_};
-ghost use mathlib.Core.List.{[], _∷_};
-ghost use Prim.Native.Nat.{_+_, _*_, _≤_, _<_};
+ghost use mathlib.Core.List.{_++_};
+ghost use Prim.Native.Nat.{ℕ, _+_, _%_, _≤_, _<_};
+ghost use lib.ListN.{length, getD, drop};
+ghost use Rattle.text.specs.Digits.{glyphOf, digits, shown};
 ghost use Rattle.text.specs.Report.{Wrote};
-ghost use Rattle.spelling.specs.Words.{fieldOf, operandOf, operandText};
+ghost use Rattle.spelling.specs.Words.{fieldsOf, operandOf, operandText};
 ghost use Rattle.spelling.specs.Listing.{dataLine, lineOf};
-ghost use Rattle.spelling.specs.Rows.{within, row0014, row001, row002, row023, rowBy, rowOf, secondRow, formAt, codeAt, formTable, operandTable, instructionOf, rowIn, nth, operandIn, spelledOf};
+ghost use Rattle.spelling.specs.Rows.{within, row0014, row001, row002, row023, plainRows, rowBy, rowOf, secondRow, codeAt, formTable, operandTable, instructionOf, signsOf, afterSigns, Ends, spelledOf, Small, Ready};
+ghost use Rattle.spelling.specs.declared.Operand.the-variants.{Register, Indexed};
 use spelling::Instruction;
 use spelling::Operand;
 
@@ -235,17 +238,97 @@ const OPERANDS: [u16; 428] = [
     524, 691, 0, 0,
 ];
 
-// The row of a code whose other digits are all free.
-const PLAIN: [u8; 128] = [
-    0, 0, 0, 0, 0, 0, 25, 26, 27, 28, 29, 30, 31, 32, 33, 34,
-    36, 37, 38, 0, 41, 42, 0, 0, 46, 47, 48, 0, 49, 50, 51, 52,
-    53, 54, 55, 56, 57, 58, 59, 60, 61, 62, 63, 64, 65, 66, 67, 68,
-    69, 70, 0, 0, 0, 0, 0, 0, 0, 0, 0, 0, 75, 76, 77, 78,
-    79, 79, 79, 79, 79, 79, 79, 79, 80, 80, 80, 80, 80, 80, 80, 80,
-    81, 81, 81, 81, 81, 81, 81, 81, 82, 82, 82, 82, 82, 82, 82, 82,
-    83, 84, 85, 86, 87, 88, 89, 90, 91, 92, 93, 94, 95, 96, 97, 98,
-    0, 0, 0, 0, 0, 0, 0, 0, 0, 0, 0, 0, 0, 0, 0, 0,
-];
+// The row of a code whose other digits are all free. A constant table would be made anew at every look.
+fn plain_row(c: u64) -> u64
+    requires { ⌜ (16 ≤ c) × (c < 128) ⌝ }
+    ensures { λ r. ⌜ r ≡ getD plainRows c 0 ⌝ }
+{
+    match c {
+        0o020 => 36,
+        0o021 => 37,
+        0o022 => 38,
+        0o024 => 41,
+        0o025 => 42,
+        0o030 => 46,
+        0o031 => 47,
+        0o032 => 48,
+        0o034 => 49,
+        0o035 => 50,
+        0o036 => 51,
+        0o037 => 52,
+        0o040 => 53,
+        0o041 => 54,
+        0o042 => 55,
+        0o043 => 56,
+        0o044 => 57,
+        0o045 => 58,
+        0o046 => 59,
+        0o047 => 60,
+        0o050 => 61,
+        0o051 => 62,
+        0o052 => 63,
+        0o053 => 64,
+        0o054 => 65,
+        0o055 => 66,
+        0o056 => 67,
+        0o057 => 68,
+        0o060 => 69,
+        0o061 => 70,
+        0o074 => 75,
+        0o075 => 76,
+        0o076 => 77,
+        0o077 => 78,
+        0o100 => 79,
+        0o101 => 79,
+        0o102 => 79,
+        0o103 => 79,
+        0o104 => 79,
+        0o105 => 79,
+        0o106 => 79,
+        0o107 => 79,
+        0o110 => 80,
+        0o111 => 80,
+        0o112 => 80,
+        0o113 => 80,
+        0o114 => 80,
+        0o115 => 80,
+        0o116 => 80,
+        0o117 => 80,
+        0o120 => 81,
+        0o121 => 81,
+        0o122 => 81,
+        0o123 => 81,
+        0o124 => 81,
+        0o125 => 81,
+        0o126 => 81,
+        0o127 => 81,
+        0o130 => 82,
+        0o131 => 82,
+        0o132 => 82,
+        0o133 => 82,
+        0o134 => 82,
+        0o135 => 82,
+        0o136 => 82,
+        0o137 => 82,
+        0o140 => 83,
+        0o141 => 84,
+        0o142 => 85,
+        0o143 => 86,
+        0o144 => 87,
+        0o145 => 88,
+        0o146 => 89,
+        0o147 => 90,
+        0o150 => 91,
+        0o151 => 92,
+        0o152 => 93,
+        0o153 => 94,
+        0o154 => 95,
+        0o155 => 96,
+        0o156 => 97,
+        0o157 => 98,
+        _ => 0,
+    }
+}
 
 // Rows that go by a digit below n.
 fn within(n: u64, first: u64, digit: u64) -> u64
@@ -346,7 +429,7 @@ fn high_row(c: u64, i: u64, j: u64, k: u64) -> u64
         0o175 => if i == 0 { within(4, 101, k) } else { 0 },
         0o176 => within(1, 105, j),
         0o177 => within(1, 106, i),
-        _ => PLAIN[c as usize] as u64,
+        _ => plain_row(c),
     }
 }
 
@@ -390,48 +473,48 @@ pub fn has_second(row: u64) -> bool
     79 <= row && row < 83
 }
 
-// A field of an instruction's parcels.
-fn field(f: u64, x: u64, m: u64) -> u64
-    requires { ⌜ (f < 8) × (m < 65536) ⌝ }
-    ensures { λ r. ⌜ r ≡ fieldOf f x m ⌝ }
+// The fields of an instruction's parcels, made once for all its operands.
+fn fields(x: u64, m: u64) -> [u64; 8]
+    requires { ⌜ m < 65536 ⌝ }
+    ensures { λ r. ⌜ r ≡ fieldsOf x m ⌝ }
 {
-    match f {
-        0 => 0,
-        1 => x / 512 % 8,
-        2 => x / 64 % 8,
-        3 => x / 8 % 8,
-        4 => x % 8,
-        5 => x % 64,
-        6 => x % 64 * 65536 + m,
-        _ => x % 256 * 65536 + m,
-    }
+    [
+        0,
+        x / 512 % 8,
+        x / 64 % 8,
+        x / 8 % 8,
+        x % 8,
+        x % 64,
+        x % 64 * 65536 + m,
+        x % 256 * 65536 + m,
+    ]
 }
 
-// The operand of a code.
-fn operand(code: u64, x: u64, m: u64) -> Operand
-    requires { ⌜ (code < 1024) × (m < 65536) ⌝ }
-    ensures { λ r. ⌜ r ≡ operandOf code x m ⌝ }
+// The operand of a code. Registers, the most common, come first.
+fn operand(code: u64, fields: &[u64; 8]) -> Operand
+    requires { ⌜ code < 1024 ⌝ }
+    ensures { λ r. ⌜ ((x m : ℕ) → now (fields .entry) ≡ fieldsOf x m → r ≡ operandOf code x m) ⌝ }
 {
     let letter = code / 8;
     let f = code % 8;
-    let v = field(f, x, m);
+    let v = fields[f as usize];
+    if 2 < letter {
+        return Operand::Register {
+            letter: letter as u8,
+            number: v,
+            wide: f == 5,
+        };
+    }
     if letter == 0 {
         return Operand::Constant(v);
     }
     if letter == 1 {
         return Operand::Indexed {
             offset: v,
-            register: x / 512 % 8,
+            register: fields[1],
         };
     }
-    if letter == 2 {
-        return Operand::Constant(if v < 64 { 64 - v } else { 0 });
-    }
-    Operand::Register {
-        letter: letter as u8,
-        number: v,
-        wide: f == 5,
-    }
+    Operand::Constant(if v < 64 { 64 - v } else { 0 })
 }
 
 // The tables. A constant table is made anew wherever it is read, so these are made once for a text and lent to what reads them.
@@ -447,14 +530,6 @@ pub fn operands() -> [u16; 428]
     OPERANDS
 }
 
-// A byte of a row's form.
-fn form(forms: &[u8; 1284], row: usize, p: usize) -> u8
-    requires { ⌜ (row < 107) × (p < 12) × (now forms ≡ formTable) ⌝ }
-    ensures { λ r. ⌜ r ≡ formAt row p ⌝ }
-{
-    forms[row * 12 + p]
-}
-
 // The code of a row's operand.
 fn code_at(operands: &[u16; 428], row: usize, t: usize) -> u64
     requires { ⌜ (row < 107) × (t < 4) × (now operands ≡ operandTable) ⌝ }
@@ -463,154 +538,235 @@ fn code_at(operands: &[u16; 428], row: usize, t: usize) -> u64
     operands[row * 4 + t] as u64
 }
 
-// The instruction of a row whose parcels are x and m.
-fn decode(operands: &[u16; 428], row: usize, x: u64, m: u64) -> Instruction
-    requires { ⌜ (row < 107) × (m < 65536) × (now operands ≡ operandTable) ⌝ }
-    ensures { λ r. ⌜ (r ≡ instructionOf row x m) × (rowIn r ≡ row) ⌝ }
+// The instruction of a row, from the fields of its parcels.
+fn decode(operands: &[u16; 428], row: usize, fields: &[u64; 8]) -> Instruction
+    requires { ⌜ (row < 107) × (now operands ≡ operandTable) ⌝ }
+    ensures { λ r. ⌜ ((x m : ℕ) → now (fields .entry) ≡ fieldsOf x m → r ≡ instructionOf row x m) ⌝ }
 {
     let a = code_at(operands, row, 0);
-    let b = code_at(operands, row, 1);
-    let c = code_at(operands, row, 2);
-    let d = code_at(operands, row, 3);
     if a == 0 {
         return Instruction::Bare(row);
     }
-    let first = operand(a, x, m);
+    let first = operand(a, fields);
+    let b = code_at(operands, row, 1);
     if b == 0 {
         return Instruction::OfOne(row, first);
     }
-    let second = operand(b, x, m);
+    let second = operand(b, fields);
+    let c = code_at(operands, row, 2);
     if c == 0 {
         return Instruction::OfTwo(row, first, second);
     }
-    let third = operand(c, x, m);
+    let third = operand(c, fields);
+    let d = code_at(operands, row, 3);
     if d == 0 {
         return Instruction::OfThree(row, first, second, third);
     }
-    Instruction::OfFour(row, first, second, third, operand(d, x, m))
+    Instruction::OfFour(row, first, second, third, operand(d, fields))
 }
 
-// The row of an instruction.
-fn row_in(ins: Instruction) -> usize
-    ensures { λ r. ⌜ r ≡ rowIn ins ⌝ }
+// From here on text is written where the caller has seen that there is room for it, so no place is tested.
+
+// The last octal digit of a number.
+fn digit(n: u64) -> u8
+    ensures { λ r. ⌜ r ≡ glyphOf (n % 8) ⌝ }
 {
-    match ins {
-        Instruction::Bare(row) => row,
-        Instruction::OfOne(row, _) => row,
-        Instruction::OfTwo(row, _, _) => row,
-        Instruction::OfThree(row, _, _, _) => row,
-        Instruction::OfFour(row, _, _, _, _) => row,
-    }
+    48 + (n % 8) as u8
 }
 
-// One of an instruction's operands.
-fn operand_in(ins: Instruction, t: usize) -> Operand
-    ensures { λ r. ⌜ r ≡ operandIn ins t ⌝ }
+// The last two.
+fn put_two_digits(line: &mut [u8], at: usize, n: u64)
+    requires { ⌜ at + 2 ≤ length (now line) ⌝ }
+    ensures { λ _. ⌜ Wrote (now (line .entry)) at (digits 8 2 n) (now (line .exit)) (at + 2) ⌝ }
 {
-    match ins {
-        Instruction::Bare(_) => Operand::Constant(0),
-        Instruction::OfOne(_, a) => chosen(
-            t,
-            a,
-            Operand::Constant(0),
-            Operand::Constant(0),
-            Operand::Constant(0),
-        ),
-        Instruction::OfTwo(_, a, b) => chosen(t, a, b, Operand::Constant(0), Operand::Constant(0)),
-        Instruction::OfThree(_, a, b, c) => chosen(t, a, b, c, Operand::Constant(0)),
-        Instruction::OfFour(_, a, b, c, d) => chosen(t, a, b, c, d),
-    }
+    line[at] = digit(n / 8);
+    line[at + 1] = digit(n);
 }
 
-// One of four.
-fn chosen(t: usize, a: Operand, b: Operand, c: Operand, d: Operand) -> Operand
-    ensures { λ r. ⌜ r ≡ nth (a ∷ b ∷ c ∷ d ∷ []) t ⌝ }
+// An octal number of at most four digits, without needless zeros.
+fn put_few(line: &mut [u8], at: usize, n: u64) -> usize
+    requires { ⌜ (n < 4096) × (at + length (shown 8 1 n) ≤ length (now line)) ⌝ }
+    ensures { λ r. ⌜ Wrote (now (line .entry)) at (shown 8 1 n) (now (line .exit)) r ⌝ }
 {
-    match t {
-        0 => a,
-        1 => b,
-        2 => c,
-        3 => d,
-        _ => Operand::Constant(0),
+    if n < 64 {
+        if n < 8 {
+            line[at] = digit(n);
+            return at + 1;
+        }
+        put_two_digits(line, at, n);
+        return at + 2;
     }
+    if n < 512 {
+        line[at] = digit(n / 64);
+        put_two_digits(line, at + 1, n);
+        return at + 3;
+    }
+    put_two_digits(line, at, n / 64);
+    put_two_digits(line, at + 2, n);
+    at + 4
+}
+
+// One of at most eight.
+fn put_octal(line: &mut [u8], at: usize, n: u64) -> usize
+    requires { ⌜ (n < 16777216) × (at + length (shown 8 1 n) ≤ length (now line)) ⌝ }
+    ensures { λ r. ⌜ Wrote (now (line .entry)) at (shown 8 1 n) (now (line .exit)) r ⌝ }
+{
+    if n < 4096 {
+        return put_few(line, at, n);
+    }
+    let end = put_few(line, at, n / 4096);
+    put_two_digits(line, end, n / 64);
+    put_two_digits(line, end + 2, n);
+    end + 4
+}
+
+// A register's name.
+fn put_register(line: &mut [u8], at: usize, letter: u8, number: u64, wide: bool) -> usize
+    requires { ⌜ at + length (operandText (Register letter number wide)) ≤ length (now line) ⌝ }
+    ensures { λ r. ⌜ Wrote (now (line .entry)) at (operandText (Register letter number wide)) (now (line .exit)) r ⌝ }
+{
+    line[at] = letter;
+    if wide {
+        line[at + 1] = digit(number / 8);
+        line[at + 2] = digit(number);
+        return at + 3;
+    }
+    line[at + 1] = digit(number);
+    at + 2
+}
+
+// An indexed memory place.
+fn put_place(line: &mut [u8], at: usize, offset: u64, register: u64) -> usize
+    requires { ⌜ Small (Indexed offset register) × (at + length (operandText (Indexed offset register)) ≤ length (now line)) ⌝ }
+    ensures { λ r. ⌜ Wrote (now (line .entry)) at (operandText (Indexed offset register)) (now (line .exit)) r ⌝ }
+{
+    let comma = put_octal(line, at, offset);
+    line[comma] = b',';
+    line[comma + 1] = b'A';
+    line[comma + 2] = digit(register);
+    comma + 3
 }
 
 // An operand's text.
 fn put_operand(line: &mut [u8], at: usize, op: Operand) -> usize
-    requires { ⌜ at ≤ 10000 ⌝ }
-    ensures { λ r. ⌜ Wrote (now (line .entry)) at (operandText op) (now (line .exit)) r × (r ≤ at + 200) ⌝ }
+    requires { ⌜ Small op × (at + length (operandText op) ≤ length (now line)) ⌝ }
+    ensures { λ r. ⌜ Wrote (now (line .entry)) at (operandText op) (now (line .exit)) r ⌝ }
 {
     match op {
         Operand::Register {
             letter,
             number,
             wide,
-        } => {
-            let digits: usize = if wide { 2 } else { 1 };
-            text::put_byte(line, at, letter);
-            text::put_digits(line, at + 1, number, 8, digits);
-            at + 1 + digits
+        } => put_register(line, at, letter, number, wide),
+        Operand::Constant(n) => put_octal(line, at, n),
+        Operand::Indexed { offset, register } => put_place(line, at, offset, register),
+    }
+}
+
+// Where a line is cut to take an operand: the next place of the line, and of the table of forms.
+struct Cut {
+    at: usize,
+    from: usize,
+}
+
+// The signs of a form from a place on, up to an operand or with the newline.
+fn put_signs(line: &mut [u8], at: usize, forms: &[u8; 1284], from: usize) -> Cut
+    requires { ⌜ Ends (drop from (now forms)) × (at + length (signsOf (drop from (now forms))) ≤ length (now line)) × (length (now forms) ≡ 1284) ⌝ }
+    ensures { λ r. ⌜ Wrote (now (line .entry)) at (signsOf (drop from (now (forms .entry)))) (now (line .exit)) (r .at) ⌝ }
+    ensures { λ r. ⌜ drop (r .from) (now (forms .entry)) ≡ afterSigns (drop from (now (forms .entry))) ⌝ }
+{
+    let mut to = at;
+    let mut p = from;
+    loop {
+        let b = forms[p];
+        p += 1;
+        if b == 0 {
+            return Cut { at: to, from: p };
         }
-        Operand::Constant(n) => text::put_number(line, at, n, 8, 1),
-        Operand::Indexed { offset, register } => {
-            let comma = text::put_number(line, at, offset, 8, 1);
-            let digit = text::put_text(line, comma, b",A");
-            text::put_number(line, digit, register, 8, 1)
+        line[to] = b;
+        to += 1;
+        if b == 10 {
+            return Cut { at: to, from: p };
         }
     }
 }
 
-// An instruction's line.
-fn put_instruction(line: &mut [u8], forms: &[u8; 1284], ins: Instruction) -> usize
-    requires { ⌜ (rowIn ins < 107) × (now forms ≡ formTable) ⌝ }
-    ensures { λ r. ⌜ Wrote (now (line .entry)) 0 (spelledOf ins) (now (line .exit)) r ⌝ }
+// An operand, and the signs after it.
+fn put_part(line: &mut [u8], forms: &[u8; 1284], cut: Cut, op: Operand) -> Cut
+    requires { ⌜ Ends (drop (cut .from) (now forms)) × Small op × (cut .at + length (operandText op ++ signsOf (drop (cut .from) (now forms))) ≤ length (now line)) × (length (now forms) ≡ 1284) ⌝ }
+    ensures { λ r. ⌜ Wrote (now (line .entry)) (cut .at) (operandText op ++ signsOf (drop (cut .from) (now (forms .entry)))) (now (line .exit)) (r .at) ⌝ }
+    ensures { λ r. ⌜ drop (r .from) (now (forms .entry)) ≡ afterSigns (drop (cut .from) (now (forms .entry))) ⌝ }
 {
-    let row = row_in(ins);
-    let mut p: usize = 0;
-    let mut t: usize = 0;
-    let mut at: usize = 0;
-    loop {
-        let b = form(forms, row, p);
-        p += 1;
-        if b == 0 {
-            let op = operand_in(ins, t);
-            at = put_operand(line, at, op);
-            t += 1;
-        } else {
-            text::put_byte(line, at, b);
-            at += 1;
-            if b == 10 {
-                return at;
-            }
+    let end = put_operand(line, cut.at, op);
+    put_signs(line, end, forms, cut.from)
+}
+
+// An instruction's line.
+fn put_instruction(line: &mut [u8], start: usize, forms: &[u8; 1284], ins: Instruction) -> usize
+    requires { ⌜ Ready (now line) start (now forms) ins ⌝ }
+    ensures { λ r. ⌜ Wrote (now (line .entry)) start (spelledOf (now (forms .entry)) ins) (now (line .exit)) r ⌝ }
+{
+    match ins {
+        Instruction::Bare(row) => put_signs(line, start, forms, row * 12).at,
+        Instruction::OfOne(row, a) => {
+            let p = put_signs(line, start, forms, row * 12);
+            put_part(line, forms, p, a).at
+        }
+        Instruction::OfTwo(row, a, b) => {
+            let p = put_signs(line, start, forms, row * 12);
+            let q = put_part(line, forms, p, a);
+            put_part(line, forms, q, b).at
+        }
+        Instruction::OfThree(row, a, b, c) => {
+            let p = put_signs(line, start, forms, row * 12);
+            let q = put_part(line, forms, p, a);
+            let r = put_part(line, forms, q, b);
+            put_part(line, forms, r, c).at
+        }
+        Instruction::OfFour(row, a, b, c, d) => {
+            let p = put_signs(line, start, forms, row * 12);
+            let q = put_part(line, forms, p, a);
+            let r = put_part(line, forms, q, b);
+            let s = put_part(line, forms, r, c);
+            put_part(line, forms, s, d).at
         }
     }
 }
 
 // A parcel as a line of data.
-pub fn put_data(line: &mut [u8], x: u64) -> usize
-    requires { ⌜ x < 65536 ⌝ }
-    ensures { λ r. ⌜ Wrote (now (line .entry)) 0 (dataLine x) (now (line .exit)) r × (r ≡ 12) ⌝ }
+pub fn put_data(line: &mut [u8], at: usize, x: u64) -> usize
+    requires { ⌜ (at + 12 ≤ length (now line)) × (x < 65536) ⌝ }
+    ensures { λ r. ⌜ Wrote (now (line .entry)) at (dataLine x) (now (line .exit)) r × (r ≡ at + 12) ⌝ }
 {
-    let at = text::put_text(line, 0, b"data=");
-    text::put_digits(line, at, x, 8, 6);
-    text::put_text(line, at + 6, b"\n")
+    line[at] = b'd';
+    line[at + 1] = b'a';
+    line[at + 2] = b't';
+    line[at + 3] = b'a';
+    line[at + 4] = b'=';
+    put_two_digits(line, at + 5, x / 4096);
+    put_two_digits(line, at + 7, x / 64);
+    put_two_digits(line, at + 9, x);
+    line[at + 11] = b'\n';
+    at + 12
 }
 
 // The line of the instruction whose first parcel is x, of the row `row`, and whose second is m, or 0: at most 16 bytes.
 pub fn put_line(
     line: &mut [u8],
+    at: usize,
     forms: &[u8; 1284],
     operands: &[u16; 428],
     row: u64,
     x: u64,
     m: u64,
 ) -> usize
-    requires { ⌜ (row ≡ rowOf x) × (x < 65536) × (m < 65536) × (now forms ≡ formTable) × (now operands ≡ operandTable) ⌝ }
-    ensures { λ r. ⌜ Wrote (now (line .entry)) 0 (lineOf x m) (now (line .exit)) r × (2 ≤ r) × (r ≤ 16) ⌝ }
+    requires { ⌜ (at + length (lineOf x m) ≤ length (now line)) × (row ≡ rowOf x) × (x < 65536) × (m < 65536) × (now forms ≡ formTable) × (now operands ≡ operandTable) ⌝ }
+    ensures { λ r. ⌜ Wrote (now (line .entry)) at (lineOf x m) (now (line .exit)) r × (at + 2 ≤ r) × (r ≤ at + 16) ⌝ }
 {
     if row == 0 {
-        return put_data(line, x);
+        return put_data(line, at, x);
     }
-    let ins = decode(operands, row as usize, x, m);
-    put_instruction(line, forms, ins)
+    let fs = fields(x, m);
+    let ins = decode(operands, row as usize, &fs);
+    put_instruction(line, at, forms, ins)
 }

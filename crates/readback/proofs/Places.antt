@@ -128,7 +128,7 @@ module _ (x m : ℕ) where
 
   -- and it has no more digits than its field needs
   value-below : m < 65536 → (w : ℕ) → (0 < widest w) × (widest w ≤ 8) × (valueOf w < 8 ^ widest w)
-  value-below h w = go (eqb w 149) (field-most (w - 128) x m h)
+  value-below h w = let most = field-most (w - 128) x m h in go (eqb w 149) (most .0, most .1, most .2)
     where
       go : (b : Bool) → (0 < fieldMost (w - 128)) × (fieldMost (w - 128) ≤ 8) × (fieldOf (w - 128) x m < 8 ^ fieldMost (w - 128))
           → (0 < pick b 3 (fieldMost (w - 128))) × (pick b 3 (fieldMost (w - 128)) ≤ 8) × (pick b (64 - jkOf x) (fieldOf (w - 128) x m) < 8 ^ pick b 3 (fieldMost (w - 128)))

@@ -1,101 +1,46 @@
--- The form of a row, byte by byte, is what the row's words spell. Assumes nothing.
-use Prim.Native.Nat.{ℕ, zero, suc, _+_, _≤_, _<_}
+-- The bytes of a row's form are those of its words, and a newline. Assumes nothing.
+use Prim.Native.Nat.{ℕ, zero, suc, _+_, _*_, _/_, _%_, _<_}
 use mathlib.Core.Path.{_≡_, refl, sym, _∙_, ap}
-use mathlib.Core.Bool.{Bool, true, false, _&&_, not}
-use mathlib.Core.List.{List, [], _∷_, _++_}
-use native.Mathlib.Numerals.{add-one}
+use mathlib.Core.List.{List, [], _∷_, _++_, map}
+use native.Mathlib.Nat.{add-zero}
 use native.Mathlib.Omega.{arith}
 use lib.ListN.{length, getD, drop}
-use lib.Seq.{drop-cons, drop-length}
-use lib.Dec.{eqb, ltb}
-use borrow.Author.Tests.{eqb-false, lt-ltb, le-ltb, ltb-true, ltb-false, not-true}
-use Rattle.machine.specs.Word.{pick}
-use Rattle.machine.specs.Codes.{codeOf, code001, code002}
-use Rattle.spelling.specs.Words.{operandText}
-use Rattle.spelling.specs.Spelling.{passing, spelling, wordsOf}
-use Rattle.spelling.specs.Rows.{rowWords, mark, formAt, operandIn, spelledFrom}
-use Rattle.spelling.specs.declared.Instruction.{Instruction}
-use Rattle.spelling.proofs.Entries.{both-hold, every, every-at}
+use lib.Seq.{drop-cons}
+use borrow.Author.Tests.{lt-ltb, le-ltb}
+use Rattle.spelling.specs.Rows.{rowWords, mark, formAt, table, formTable}
+use Rattle.spelling.proofs.Entries.{entry}
 
--- no sign is 0 or a newline
-clear : List ℕ → Bool
-clear [] = true
-clear (w ∷ ws) = pick (ltb w 128) (not (eqb w 0) && not (eqb w 10)) true && clear ws
+table-length : (f : ℕ → ℕ) (i n : ℕ) → length (table f i n) ≡ n
+table-length f i zero = refl
+table-length f i (suc n) = ap suc (table-length f (suc i) n)
 
-all-clear : every (λ r. clear (rowWords r)) 107 ≡ true
-unfolding every clear rowWords wordsOf codeOf code001 code002 spelling passing
-all-clear = refl
+pub forms-length : length formTable ≡ 1284
+unfolding formTable
+forms-length = table-length (λ n. formAt (n / 12) (n % 12)) 0 1284
 
-clear-at : (ws : List ℕ) (p : ℕ) → clear ws ≡ true → p < length ws → ltb (getD ws p 0) 128 ≡ true
-    → (getD ws p 0 ≡ 0 → ⊥) × (getD ws p 0 ≡ 10 → ⊥)
-unfolding clear
-clear-at [] p e h l = absurd (omega arith)
-clear-at (w ∷ ws) zero e h l =
-    let here = both-hold (pick (ltb w 128) (not (eqb w 0) && not (eqb w 10)) true) (clear ws) e .0 in
-    let tests : not (eqb w 0) && not (eqb w 10) ≡ true = rw l at here in
-    let t = both-hold (not (eqb w 0)) (not (eqb w 10)) tests in
-    (eqb-false w 0 (not-true (eqb w 0) (t .0)), eqb-false w 10 (not-true (eqb w 10) (t .1)))
-clear-at (w ∷ ws) (suc p) e h l =
-    clear-at ws p (both-hold (pick (ltb w 128) (not (eqb w 0) && not (eqb w 10)) true) (clear ws) e .1) (omega arith) l
+module _ (r : ℕ) (h : r < 107) (few : length (rowWords r) < 12) where
+  byte-at : (p : ℕ) → p < 12 → drop (r * 12 + p) formTable ≡ formAt r p ∷ drop (r * 12 + suc p) formTable
+  unfolding formTable
+  byte-at p k =
+      let a : (0 + (r * 12 + p)) / 12 ≡ r = omega arith in
+      let b : (0 + (r * 12 + p)) % 12 ≡ p = omega arith in
+      let on : suc (r * 12 + p) ≡ r * 12 + suc p = omega arith in
+      drop-cons formTable (r * 12 + p) 0 (omega (arith, forms-length))
+      ∙ rw (entry (λ n. formAt (n / 12) (n % 12)) 0 1284 (r * 12 + p) (omega arith), a, b, on)
 
--- the byte p of the form of a row, where p words are passed
-module _ (r p : ℕ) (h : r < 107) where
-  abbrev ws : List ℕ
-  ws = rowWords r
-
-  abbrev w : ℕ
-  w = getD (rowWords r) p 0
-
-  left-at : p < length ws → drop p ws ≡ w ∷ drop (p + 1) ws
-  left-at l = drop-cons ws p 0 l ∙ ap (λ (n : ℕ). w ∷ drop n ws) (sym (add-one p))
-
-  form-inside : p < length ws → formAt r p ≡ mark w
+  -- words left, of which the first is the word p
+  bytes-left : (left : List ℕ) (p : ℕ) → drop p (rowWords r) ≡ left → p + length left ≡ length (rowWords r)
+      → drop (r * 12 + p) formTable ≡ map mark left ++ (10 ∷ drop (r * 12 + suc (length (rowWords r))) formTable)
   unfolding formAt
-  form-inside l = rw (lt-ltb p (length ws) l)
+  bytes-left [] p e n =
+      let end : p ≡ length (rowWords r) = omega arith in
+      byte-at p (omega arith) ∙ rw (le-ltb p (length (rowWords r)) (omega arith), end)
+  bytes-left (w ∷ left) p e n =
+      let inside : p < length (rowWords r) = omega arith in
+      let cons = sym e ∙ drop-cons (rowWords r) p 0 inside in
+      let first : w ≡ getD (rowWords r) p 0 = cc in
+      let rest : left ≡ drop (suc p) (rowWords r) = cc in
+      byte-at p (omega arith) ∙ rw (lt-ltb p (length (rowWords r)) inside, ← first, bytes-left left (suc p) (sym rest) (omega arith))
 
-  form-past : length ws ≤ p → formAt r p ≡ 10
-  unfolding formAt
-  form-past l = rw (le-ltb p (length ws) l)
-
-  signs-clear : p < length ws → ltb w 128 ≡ true → (w ≡ 0 → ⊥) × (w ≡ 10 → ⊥)
-  signs-clear l e = clear-at ws p (every-at (λ r. clear (rowWords r)) 107 all-clear r h) l e
-
-  -- inside, by a sign or by an operand; past the last word
-  by-place : {A : Type 0} → p ≤ length ws → (p < length ws → ltb w 128 ≡ true → formAt r p ≡ w → A)
-      → (p < length ws → ltb w 128 ≡ false → formAt r p ≡ 0 → A) → (p ≡ length ws → formAt r p ≡ 10 → A) → A
-  by-place {A} l sign operand past = go (ltb p (length ws)) refl
-    where
-      inside : p < length ws → (b : Bool) → ltb w 128 ≡ b → A
-      inside k true e = sign k e (form-inside k ∙ rw e)
-      inside k false e = operand k e (form-inside k ∙ rw e)
-
-      go : (b : Bool) → ltb p (length ws) ≡ b → A
-      go true e = inside (ltb-true p (length ws) e) (ltb w 128) refl
-      go false e = let k = ltb-false p (length ws) e in past (omega arith) (form-past k)
-
-  module _ (l : p ≤ length ws) (ins : Instruction) (t : ℕ) where
-    pub form-operand : formAt r p ≡ 0
-        → (p < length ws) × (spelledFrom (drop p ws) ins t ≡ operandText (operandIn ins t) ++ spelledFrom (drop (p + 1) ws) ins (t + 1))
-    unfolding spelledFrom
-    form-operand e =
-        by-place l
-        (λ k s f. absurd (signs-clear k s .0 (sym f ∙ e)))
-        (λ k s f. (k, rw (left-at k, s)))
-        (λ k f. absurd (let z = sym f ∙ e in omega (arith, z)))
-
-    pub form-end : formAt r p ≡ 10 → spelledFrom (drop p ws) ins t ≡ 10 ∷ []
-    unfolding spelledFrom
-    form-end e =
-        by-place l
-        (λ k s f. absurd (signs-clear k s .1 (sym f ∙ e)))
-        (λ k s f. absurd (let z = sym f ∙ e in omega (arith, z)))
-        (λ k f. rw (k, drop-length ws))
-
-    pub form-sign : (formAt r p ≡ 0 → ⊥) → (formAt r p ≡ 10 → ⊥)
-        → (p < length ws) × (spelledFrom (drop p ws) ins t ≡ formAt r p ∷ spelledFrom (drop (p + 1) ws) ins t)
-    unfolding spelledFrom
-    form-sign n e =
-        by-place l
-        (λ k s f. (k, rw (left-at k, s, f)))
-        (λ k s f. absurd (n f))
-        (λ k f. absurd (e f))
+  pub form-bytes : drop (r * 12) formTable ≡ map mark (rowWords r) ++ (10 ∷ drop (r * 12 + suc (length (rowWords r))) formTable)
+  form-bytes = ap (λ (n : ℕ). drop n formTable) (sym (add-zero (r * 12))) ∙ bytes-left (rowWords r) 0 refl (omega arith)

@@ -1,16 +1,17 @@
--- How the program looks a parcel's row up. Nothing here has to be believed: what is proved of it is that it finds the words that
--- Spelling gives. Assumes nothing.
-use Prim.Native.Nat.{ℕ, zero, suc, _+_, _-_, _*_, _/_, _%_}
-use mathlib.Core.Bool.{Bool, true, false, _&&_, _||_}
+-- How the program looks a parcel's row up, and writes the row's line. Nothing here has to be believed: what is proved of it is
+-- that it comes to the words that Spelling gives. Assumes nothing.
+use Prim.Native.Nat.{ℕ, zero, suc, _+_, _-_, _*_, _/_, _%_, _≤_, _<_}
+use mathlib.Core.Path.{_≡_}
+use mathlib.Core.Bool.{Bool, _&&_, _||_}
 use mathlib.Core.List.{List, [], _∷_, _++_}
-use lib.ListN.{length, getD}
+use lib.ListN.{length, getD, drop}
 use lib.Dec.{eqb, ltb, leb}
 use Rattle.machine.specs.Word.{pick}
-use Rattle.machine.specs.Parcel.{iOf, jOf, kOf, jkOf}
+use Rattle.machine.specs.Parcel.{iOf, jOf, kOf}
 use Rattle.spelling.specs.Words.{operandOf, operandText}
 use Rattle.spelling.specs.Spelling.{wordsOf}
 use Rattle.spelling.specs.declared.Operand.{Operand}
-use Rattle.spelling.specs.declared.Operand.the-variants.{Constant}
+use Rattle.spelling.specs.declared.Operand.the-variants.{Register, Constant, Indexed}
 use Rattle.spelling.specs.declared.Instruction.{Instruction}
 use Rattle.spelling.specs.declared.Instruction.the-variants.{Bare, OfOne, OfTwo, OfThree, OfFour}
 
@@ -153,7 +154,7 @@ withCodes r a b c d x m =
 unfoldable pub instructionOf : ℕ → ℕ → ℕ → Instruction
 instructionOf r x m = withCodes r (codeAt r 0) (codeAt r 1) (codeAt r 2) (codeAt r 3) x m
 
--- its row, and its operand t
+-- its row, and its operands
 unfoldable pub rowIn : Instruction → ℕ
 rowIn (Bare r) = r
 rowIn (OfOne r a) = r
@@ -161,20 +162,54 @@ rowIn (OfTwo r a b) = r
 rowIn (OfThree r a b c) = r
 rowIn (OfFour r a b c d) = r
 
-abbrev pub nth : List Operand → ℕ → Operand
-nth l t = getD l t (Constant 0)
+unfoldable pub operandsHeld : Instruction → List Operand
+operandsHeld (Bare r) = []
+operandsHeld (OfOne r a) = a ∷ []
+operandsHeld (OfTwo r a b) = a ∷ b ∷ []
+operandsHeld (OfThree r a b c) = a ∷ b ∷ c ∷ []
+operandsHeld (OfFour r a b c d) = a ∷ b ∷ c ∷ d ∷ []
 
-unfoldable pub operandIn : Instruction → ℕ → Operand
-operandIn (Bare r) t = Constant 0
-operandIn (OfOne r a) t = nth (a ∷ []) t
-operandIn (OfTwo r a b) t = nth (a ∷ b ∷ []) t
-operandIn (OfThree r a b c) t = nth (a ∷ b ∷ c ∷ []) t
-operandIn (OfFour r a b c d) t = nth (a ∷ b ∷ c ∷ d ∷ []) t
+-- the bytes of a form up to the first operand, or with the newline; what follows either; and that one of them is to come
+unfoldable pub signsOf : List ℕ → List ℕ
+signsOf [] = []
+signsOf (b ∷ l) = let more = b ∷ signsOf l in pick (eqb b 0) [] (pick (eqb b 10) (b ∷ []) more)
 
--- its line, where ws are the words left and t operands are spelled
-unfoldable pub spelledFrom : List ℕ → Instruction → ℕ → List ℕ
-spelledFrom [] ins t = 10 ∷ []
-spelledFrom (w ∷ ws) ins t = pick (ltb w 128) (w ∷ spelledFrom ws ins t) (operandText (operandIn ins t) ++ spelledFrom ws ins (t + 1))
+unfoldable pub afterSigns : List ℕ → List ℕ
+afterSigns [] = []
+afterSigns (b ∷ l) = let more = afterSigns l in pick (eqb b 0) l (pick (eqb b 10) l more)
 
-unfoldable pub spelledOf : Instruction → List ℕ
-spelledOf ins = spelledFrom (rowWords (rowIn ins)) ins 0
+unfoldable pub Ends : List ℕ → Type 0
+Ends [] = ⊥
+Ends (b ∷ l) = (b ≡ 0 → ⊥) → (b ≡ 10 → ⊥) → Ends l
+
+-- operands, each with the signs after it, where l are the bytes after the first
+unfoldable pub partsOf : List ℕ → List Operand → List ℕ
+partsOf l [] = []
+partsOf l (o ∷ os) = (operandText o ++ signsOf l) ++ partsOf (afterSigns l) os
+
+-- the line of a form's bytes and operands, and of an instruction by a table of forms
+abbrev pub filled : List ℕ → List Operand → List ℕ
+filled l os = signsOf l ++ partsOf (afterSigns l) os
+
+unfoldable pub spelledOf : List ℕ → Instruction → List ℕ
+spelledOf forms ins = filled (drop (rowIn ins * 12) forms) (operandsHeld ins)
+
+-- an operand's numbers have at most eight octal digits, and that of an index one
+abbrev pub Small : Operand → Type 0
+Small (Register letter number wide) = Unit
+Small (Constant n) = n < 16777216
+Small (Indexed offset register) = (offset < 16777216) × (register < 8)
+
+-- each operand is small, and has its place in the form
+unfoldable pub Fills : List ℕ → List Operand → Type 0
+Fills l [] = Ends l
+Fills l (o ∷ os) = Ends l × Small o × Fills (afterSigns l) os
+
+abbrev pub Spells : List ℕ → Instruction → Type 0
+Spells forms ins = Fills (drop (rowIn ins * 12) forms) (operandsHeld ins)
+
+-- an instruction's line can be written to a buffer from `at` on
+pub record Ready (buffer : List ℕ) (at : ℕ) (forms : List ℕ) (ins : Instruction) : Type 0 where
+  pub spells : Spells forms ins
+  pub room : at + length (spelledOf forms ins) ≤ length buffer
+  pub table : length forms ≡ 1284

@@ -33,8 +33,11 @@ end = []
 -- operands: a register's letter, or a number below 3, times 8, and the number of a field
 
 -- the fields: 1 h, 2 i, 3 j, 4 k, 5 jk, 6 jkm, 7 ijkm without the high bit of i
+abbrev pub fieldsOf : ℕ → ℕ → List ℕ
+fieldsOf x m = 0 ∷ hOf x ∷ iOf x ∷ jOf x ∷ kOf x ∷ jkOf x ∷ jkmOf x m ∷ ijkmOf x m ∷ []
+
 abbrev pub fieldOf : ℕ → ℕ → ℕ → ℕ
-fieldOf f x m = getD (0 ∷ hOf x ∷ iOf x ∷ jOf x ∷ kOf x ∷ jkOf x ∷ jkmOf x m ∷ ijkmOf x m ∷ []) f 0
+fieldOf f x m = getD (fieldsOf x m) f 0
 
 abbrev pub operand : ℕ → ℕ → List ℕ
 operand letter f = (128 + letter * 8 + f) ∷ []

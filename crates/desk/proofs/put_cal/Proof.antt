@@ -1,6 +1,8 @@
 use mathlib.Core.Path.{sym}
 use native.Mathlib.Omega.{arith}
 use lib.Seq.{length-take-le}
+use Rattle.spelling.proofs.Lines.{line-most}
+use Rattle.line.proofs.Laws.{row-small}
 use Rattle.desk.proofs.Columns.{copied}
 use borrow.Author.Needs.{needs}
 use Rattle.desk.proofs.put_cal.Statement.{statement}
@@ -16,7 +18,11 @@ slice-aggregate-put-line : tie.Need-slice-aggregate-put-line
 slice-aggregate-put-line c = search needs
 
 put-line-requires : tie.Need-put-line-requires
-put-line-requires c κs = search needs
+put-line-requires c κs =
+    let s = c .before .before .before .before .before .before in
+    let p = s .pre in
+    let most = line-most (s .args .x) (s .args .m) (p .2) (row-small (s .args .x) (p .2)) (p .3) in
+    (omega (arith, most .1), p .1, p .2, p .3, c .before .before .before .before .forms .ensures, c .before .before .before .operands .ensures)
 
 array-share-prefix-line : tie.Need-array-share-prefix-line
 array-share-prefix-line c = search needs

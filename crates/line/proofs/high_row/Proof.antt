@@ -1,8 +1,7 @@
-use mathlib.Core.Path.{sym}
-use native.Mathlib.Omega.{arith}
+use mathlib.Core.Path.{sym, _∙_}
 use borrow.Author.Tests.{eq-eqb, ne-eqb}
 use Rattle.spelling.specs.Rows.{rowBy}
-use Rattle.line.proofs.Laws.{plain-small, row-plain}
+use Rattle.line.proofs.Laws.{row-plain}
 use borrow.Author.Needs.{needs}
 use Rattle.line.proofs.high_row.Statement.{statement}
 use Rattle.line.proofs.high_row.Tie as tie
@@ -40,11 +39,8 @@ within-requires-7 c κs = search needs
 within-requires-8 : tie.Need-within-requires-8
 within-requires-8 c κs = search needs
 
-array-read-result : tie.Need-array-read-result
-array-read-result c = search needs
-
-cast-result : tie.Need-cast-result
-cast-result c = omega (arith, plain-small (c .before .args .c) (c .before .pre .1))
+plain-row-requires : tie.Need-plain-row-requires
+plain-row-requires c κs = search needs
 
 returns : tie.Need-returns
 unfolding rowBy
@@ -92,9 +88,13 @@ returns-11 c = rw (c .before .match .keys9) (c .within8 .ensures)
 
 returns-12 : tie.Need-returns-12
 returns-12 c =
-    let a = c .before .args in
-    let n = c .match .rest in
-    sym (row-plain (a .c) (a .i) (a .j) (a .k) (c .before .pre .0) (n .0 .0 .0 .0 .0 .0 .0 .0 .1) (n .0 .0 .0 .0 .0 .0 .0 .1) (n .0 .0 .0 .0 .0 .0 .1) (n .0 .0 .0 .0 .0 .1) (n .0 .0 .0 .0 .1) (n .0 .0 .0 .1) (n .0 .0 .1) (n .0 .1) (n .1))
+    let a = c .before .before .args in
+    let n = c .before .match .rest in
+    c .plain-row .ensures
+    ∙ sym
+    (row-plain (a .c) (a .i) (a .j) (a .k) (c .before .before .pre .0)
+    (n .0 .0 .0 .0 .0 .0 .0 .0 .1) (n .0 .0 .0 .0 .0 .0 .0 .1) (n .0 .0 .0 .0 .0 .0 .1) (n .0 .0 .0 .0 .0 .1) (n .0 .0 .0 .0 .1)
+    (n .0 .0 .0 .1) (n .0 .0 .1) (n .0 .1) (n .1))
 
 pub high-row-spec : {M : Type 1} → statement M
 high-row-spec =
@@ -111,8 +111,7 @@ high-row-spec =
     within-requires-6
     within-requires-7
     within-requires-8
-    array-read-result
-    cast-result
+    plain-row-requires
     returns
     returns-2
     returns-3

@@ -1,86 +1,291 @@
-use mathlib.Core.Path.{refl, _≡_, _∙_}
-use mathlib.Core.List.{List}
-use Prim.Native.Nat.{ℕ, _-_, _*_, _≤_, _<_}
 use native.Mathlib.Omega.{arith}
-use lib.ListN.{length, drop}
+use Rattle.spelling.specs.Rows.{rowIn, operandsHeld}
+use Rattle.line.proofs.Written.{row-inside, signs-fit, spelling, part-fits, part-next, all-parts}
 use borrow.Author.Needs.{needs}
-use Rattle.text.specs.Report.{Wrote}
-use Rattle.spelling.specs.Rows.{rowWords, spelledFrom, spelledOf}
-use Rattle.spelling.proofs.Lines.{row-is}
-use Rattle.line.proofs.Written.{operand-turn, sign-turn, end-turn, goes-on}
 use Rattle.line.proofs.put_instruction.Statement.{statement}
 use Rattle.line.proofs.put_instruction.Tie as tie
 
-abbrev Inv-loop : tie.InvT-loop
-Inv-loop line₀ forms ins row p₀ t₀ at₀ line p t at = (row < 107) × (p ≤ length (rowWords row)) × (t ≤ p) × (at ≤ 200 * p) × (length line ≡ length line₀) × ((k : List ℕ) (q : ℕ) → Wrote line at (spelledFrom (drop p (rowWords row)) ins t) k q → Wrote line₀ 0 (spelledFrom (rowWords row) ins 0) k q)
+enum-known-ins : tie.Need-enum-known-ins
+enum-known-ins c = search needs
 
-abbrev μ-loop : tie.MeasureT-loop
-μ-loop line₀ forms ins row p₀ t₀ at₀ line p t at = length (rowWords row) - p
+mul-put-signs : tie.Need-mul-put-signs
+unfolding rowIn
+mul-put-signs c = omega (arith, row-inside (c .before .before .before .before .before .pre) (c .before .before .ins .given .1))
 
-row-in-requires : tie.Need-row-in-requires Inv-loop μ-loop
-row-in-requires c κs = search needs
+put-signs-requires : tie.Need-put-signs-requires
+unfolding rowIn
+put-signs-requires c κs = signs-fit (c .before .before .before .before .before .pre) (c .before .before .ins .given .1)
 
-loop-holds : tie.Need-loop-holds Inv-loop μ-loop
-loop-holds c = ((rw (← c .row-in .ensures) at (c .before .before .pre .0)), omega arith, omega arith, omega arith, refl, λ k q w. w)
+enum-known-ins-2 : tie.Need-enum-known-ins-2
+enum-known-ins-2 c = search needs
 
-form-requires : tie.Need-form-requires Inv-loop μ-loop
-form-requires c κs = (c .loop .inv .0, (let ten = row-is _ (c .loop .inv .0) .ten in omega (arith, ten)), c .before .before .before .pre .1)
+mul-put-signs-2 : tie.Need-mul-put-signs-2
+unfolding rowIn
+mul-put-signs-2 c = omega (arith, row-inside (c .before .before .before .before .before .pre) (c .before .before .ins2 .given .1))
 
-add-p : tie.Need-add-p Inv-loop μ-loop
-add-p c = let ten = row-is _ (c .before .loop .inv .0) .ten in omega (arith, ten)
+put-signs-requires-2 : tie.Need-put-signs-requires-2
+unfolding rowIn
+put-signs-requires-2 c κs = signs-fit (c .before .before .before .before .before .pre) (c .before .before .ins2 .given .1)
 
-operand-in-requires : tie.Need-operand-in-requires Inv-loop μ-loop
-operand-in-requires c κs = search needs
+put-part-requires : tie.Need-put-part-requires
+unfolding rowIn operandsHeld
+put-part-requires c κs =
+    let c0 = c .before .before .before in
+    let e = c0 .before .before .before in
+    let t = c0 .put-signs2 in
+    let s0 = spelling (e .before .before .before .pre) (e .ins2 .given .1) (t .result .from) (t .ensures) (t .kept .0) in
+    part-fits s0
 
-put-operand-requires : tie.Need-put-operand-requires Inv-loop μ-loop
-put-operand-requires c κs = let ten = row-is _ (c .before .before .before .before .loop .inv .0) .ten in omega (arith, ten)
+enum-known-ins-3 : tie.Need-enum-known-ins-3
+enum-known-ins-3 c = search needs
 
-add-t : tie.Need-add-t Inv-loop μ-loop
-add-t c = let ten = row-is _ (c .before .before .before .before .before .before .before .loop .inv .0) .ten in omega (arith, ten)
+mul-put-signs-3 : tie.Need-mul-put-signs-3
+unfolding rowIn
+mul-put-signs-3 c = omega (arith, row-inside (c .before .before .before .before .before .pre) (c .before .before .ins3 .given .1))
 
-loop-less : tie.Need-loop-less Inv-loop μ-loop
-loop-less c = let on = goes-on _ _ 0 (c .before .before .before .before .before .before .before .before .before .before .args .ins) (c .before .before .before .before .before .before .before .loop .inv .0) (c .before .before .before .before .before .before .before .loop .inv .1) _ (c .before .before .before .before .before .before .form .ensures) (λ z. omega (arith, z)) in omega (arith, on)
+put-signs-requires-3 : tie.Need-put-signs-requires-3
+unfolding rowIn
+put-signs-requires-3 c κs = signs-fit (c .before .before .before .before .before .pre) (c .before .before .ins3 .given .1)
 
-loop-again : tie.Need-loop-again Inv-loop μ-loop
-loop-again c = let L = c .before .before .before .before .before .before .before .loop .inv in let on = goes-on _ _ 0 (c .before .before .before .before .before .before .before .before .before .before .args .ins) (L .0) (L .1) _ (c .before .before .before .before .before .before .form .ensures) (λ z. omega (arith, z)) in (L .0, omega (arith, on), omega arith, omega arith, c .before .before .put-operand .kept .0 ∙ L .4, λ k q w. L .5 k q (operand-turn _ _ _ (c .before .before .before .before .before .before .before .before .before .before .args .ins) (L .0) (L .1) _ _ (c .before .before .before .before .before .before .form .ensures) (c .before .before .before .before .before .if1 .taken) (c .before .before .before .before .operand-in .ensures) (c .before .before .put-operand .ensures .0) w))
+put-part-requires-2 : tie.Need-put-part-requires-2
+unfolding rowIn operandsHeld
+put-part-requires-2 c κs =
+    let c0 = c .before .before .before in
+    let e = c0 .before .before .before in
+    let t = c0 .put-signs3 in
+    let s0 = spelling (e .before .before .before .pre) (e .ins3 .given .1) (t .result .from) (t .ensures) (t .kept .0) in
+    part-fits s0
 
-put-byte-requires : tie.Need-put-byte-requires Inv-loop μ-loop
-put-byte-requires c κs = search needs
+put-part-requires-3 : tie.Need-put-part-requires-3
+unfolding rowIn operandsHeld
+put-part-requires-3 c κs =
+    let c1 = c .before .before .before in
+    let c0 = c1 .before .before .before .before in
+    let e = c0 .before .before .before in
+    let t = c0 .put-signs3 in
+    let s0 = spelling (e .before .before .before .pre) (e .ins3 .given .1) (t .result .from) (t .ensures) (t .kept .0) in
+    let s1 = part-next (c1 .put-part2 .result .from) s0 (c1 .put-part2 .ensures) (c1 .put-part2 .kept .0) in
+    part-fits s1
 
-add-at : tie.Need-add-at Inv-loop μ-loop
-add-at c = let ten = row-is _ (c .before .before .before .before .before .before .loop .inv .0) .ten in omega (arith, ten)
+enum-known-ins-4 : tie.Need-enum-known-ins-4
+enum-known-ins-4 c = search needs
 
-same-length : tie.Need-same-length Inv-loop μ-loop
-same-length c = c .before .before .before .put-byte .kept .0 ∙ c .before .before .before .before .before .before .before .loop .inv .4
+mul-put-signs-4 : tie.Need-mul-put-signs-4
+unfolding rowIn
+mul-put-signs-4 c = omega (arith, row-inside (c .before .before .before .before .before .pre) (c .before .before .ins4 .given .1))
 
-returns : tie.Need-returns Inv-loop μ-loop
-unfolding spelledOf
-returns c = let L = c .before .before .before .before .before .before .before .loop .inv in rw (← c .before .before .before .before .before .before .before .before .row-in .ensures) (L .5 _ _ (end-turn _ _ _ (c .before .before .before .before .before .before .before .before .before .before .args .ins) (L .0) (L .1) _ (c .before .before .before .before .before .before .form .ensures) (c .if2 .taken) (c .before .before .before .put-byte .ensures)))
+put-signs-requires-4 : tie.Need-put-signs-requires-4
+unfolding rowIn
+put-signs-requires-4 c κs = signs-fit (c .before .before .before .before .before .pre) (c .before .before .ins4 .given .1)
 
-loop-less-2 : tie.Need-loop-less-2 Inv-loop μ-loop
-loop-less-2 c = let L = c .before .before .before .before .before .before .before .loop .inv in let on = goes-on _ _ 0 (c .before .before .before .before .before .before .before .before .before .before .args .ins) (L .0) (L .1) _ (c .before .before .before .before .before .before .form .ensures) (c .if2 .left) in omega (arith, on)
+put-part-requires-4 : tie.Need-put-part-requires-4
+unfolding rowIn operandsHeld
+put-part-requires-4 c κs =
+    let c0 = c .before .before .before in
+    let e = c0 .before .before .before in
+    let t = c0 .put-signs4 in
+    let s0 = spelling (e .before .before .before .pre) (e .ins4 .given .1) (t .result .from) (t .ensures) (t .kept .0) in
+    part-fits s0
 
-loop-again-2 : tie.Need-loop-again-2 Inv-loop μ-loop
-loop-again-2 c = let L = c .before .before .before .before .before .before .before .loop .inv in let on = goes-on _ _ 0 (c .before .before .before .before .before .before .before .before .before .before .args .ins) (L .0) (L .1) _ (c .before .before .before .before .before .before .form .ensures) (c .if2 .left) in (L .0, omega (arith, on), omega arith, omega arith, c .before .before .before .put-byte .kept .0 ∙ L .4, λ k q w. L .5 k q (sign-turn _ _ _ (c .before .before .before .before .before .before .before .before .before .before .args .ins) (L .0) (L .1) _ (c .before .before .before .before .before .before .form .ensures) (c .before .before .before .before .before .if1 .left) (c .if2 .left) (c .before .before .before .put-byte .ensures) w))
+put-part-requires-5 : tie.Need-put-part-requires-5
+unfolding rowIn operandsHeld
+put-part-requires-5 c κs =
+    let c1 = c .before .before .before in
+    let c0 = c1 .before .before .before .before in
+    let e = c0 .before .before .before in
+    let t = c0 .put-signs4 in
+    let s0 = spelling (e .before .before .before .pre) (e .ins4 .given .1) (t .result .from) (t .ensures) (t .kept .0) in
+    let s1 = part-next (c1 .put-part4 .result .from) s0 (c1 .put-part4 .ensures) (c1 .put-part4 .kept .0) in
+    part-fits s1
+
+put-part-requires-6 : tie.Need-put-part-requires-6
+unfolding rowIn operandsHeld
+put-part-requires-6 c κs =
+    let c2 = c .before .before .before in
+    let c1 = c2 .before .before .before .before in
+    let c0 = c1 .before .before .before .before in
+    let e = c0 .before .before .before in
+    let t = c0 .put-signs4 in
+    let s0 = spelling (e .before .before .before .pre) (e .ins4 .given .1) (t .result .from) (t .ensures) (t .kept .0) in
+    let s1 = part-next (c1 .put-part4 .result .from) s0 (c1 .put-part4 .ensures) (c1 .put-part4 .kept .0) in
+    let s2 = part-next (c2 .put-part5 .result .from) s1 (c2 .put-part5 .ensures) (c2 .put-part5 .kept .0) in
+    part-fits s2
+
+enum-known-ins-5 : tie.Need-enum-known-ins-5
+enum-known-ins-5 c = search needs
+
+mul-put-signs-5 : tie.Need-mul-put-signs-5
+unfolding rowIn
+mul-put-signs-5 c = omega (arith, row-inside (c .before .before .before .before .before .pre) (c .before .before .ins5 .given .1))
+
+put-signs-requires-5 : tie.Need-put-signs-requires-5
+unfolding rowIn
+put-signs-requires-5 c κs = signs-fit (c .before .before .before .before .before .pre) (c .before .before .ins5 .given .1)
+
+put-part-requires-7 : tie.Need-put-part-requires-7
+unfolding rowIn operandsHeld
+put-part-requires-7 c κs =
+    let c0 = c .before .before .before in
+    let e = c0 .before .before .before in
+    let t = c0 .put-signs5 in
+    let s0 = spelling (e .before .before .before .pre) (e .ins5 .given .1) (t .result .from) (t .ensures) (t .kept .0) in
+    part-fits s0
+
+put-part-requires-8 : tie.Need-put-part-requires-8
+unfolding rowIn operandsHeld
+put-part-requires-8 c κs =
+    let c1 = c .before .before .before in
+    let c0 = c1 .before .before .before .before in
+    let e = c0 .before .before .before in
+    let t = c0 .put-signs5 in
+    let s0 = spelling (e .before .before .before .pre) (e .ins5 .given .1) (t .result .from) (t .ensures) (t .kept .0) in
+    let s1 = part-next (c1 .put-part7 .result .from) s0 (c1 .put-part7 .ensures) (c1 .put-part7 .kept .0) in
+    part-fits s1
+
+put-part-requires-9 : tie.Need-put-part-requires-9
+unfolding rowIn operandsHeld
+put-part-requires-9 c κs =
+    let c2 = c .before .before .before in
+    let c1 = c2 .before .before .before .before in
+    let c0 = c1 .before .before .before .before in
+    let e = c0 .before .before .before in
+    let t = c0 .put-signs5 in
+    let s0 = spelling (e .before .before .before .pre) (e .ins5 .given .1) (t .result .from) (t .ensures) (t .kept .0) in
+    let s1 = part-next (c1 .put-part7 .result .from) s0 (c1 .put-part7 .ensures) (c1 .put-part7 .kept .0) in
+    let s2 = part-next (c2 .put-part8 .result .from) s1 (c2 .put-part8 .ensures) (c2 .put-part8 .kept .0) in
+    part-fits s2
+
+put-part-requires-10 : tie.Need-put-part-requires-10
+unfolding rowIn operandsHeld
+put-part-requires-10 c κs =
+    let c3 = c .before .before .before in
+    let c2 = c3 .before .before .before .before in
+    let c1 = c2 .before .before .before .before in
+    let c0 = c1 .before .before .before .before in
+    let e = c0 .before .before .before in
+    let t = c0 .put-signs5 in
+    let s0 = spelling (e .before .before .before .pre) (e .ins5 .given .1) (t .result .from) (t .ensures) (t .kept .0) in
+    let s1 = part-next (c1 .put-part7 .result .from) s0 (c1 .put-part7 .ensures) (c1 .put-part7 .kept .0) in
+    let s2 = part-next (c2 .put-part8 .result .from) s1 (c2 .put-part8 .ensures) (c2 .put-part8 .kept .0) in
+    let s3 = part-next (c3 .put-part9 .result .from) s2 (c3 .put-part9 .ensures) (c3 .put-part9 .kept .0) in
+    part-fits s3
+
+same-length : tie.Need-same-length
+same-length c = search needs
+
+returns : tie.Need-returns
+unfolding rowIn operandsHeld
+returns c =
+    let c0 = c .before .before in
+    let e = c0 .before .before .before in
+    let t = c0 .put-signs in
+    let s0 = spelling (e .before .before .before .pre) (e .ins .given .1) (t .result .from) (t .ensures) (t .kept .0) in
+    all-parts s0
+
+same-length-2 : tie.Need-same-length-2
+same-length-2 c = search needs
+
+returns-2 : tie.Need-returns-2
+unfolding rowIn operandsHeld
+returns-2 c =
+    let c1 = c .before .before in
+    let c0 = c1 .before .before .before .before in
+    let e = c0 .before .before .before in
+    let t = c0 .put-signs2 in
+    let s0 = spelling (e .before .before .before .pre) (e .ins2 .given .1) (t .result .from) (t .ensures) (t .kept .0) in
+    let s1 = part-next (c1 .put-part .result .from) s0 (c1 .put-part .ensures) (c1 .put-part .kept .0) in
+    all-parts s1
+
+same-length-3 : tie.Need-same-length-3
+same-length-3 c = search needs
+
+returns-3 : tie.Need-returns-3
+unfolding rowIn operandsHeld
+returns-3 c =
+    let c2 = c .before .before in
+    let c1 = c2 .before .before .before .before in
+    let c0 = c1 .before .before .before .before in
+    let e = c0 .before .before .before in
+    let t = c0 .put-signs3 in
+    let s0 = spelling (e .before .before .before .pre) (e .ins3 .given .1) (t .result .from) (t .ensures) (t .kept .0) in
+    let s1 = part-next (c1 .put-part2 .result .from) s0 (c1 .put-part2 .ensures) (c1 .put-part2 .kept .0) in
+    let s2 = part-next (c2 .put-part3 .result .from) s1 (c2 .put-part3 .ensures) (c2 .put-part3 .kept .0) in
+    all-parts s2
+
+same-length-4 : tie.Need-same-length-4
+same-length-4 c = search needs
+
+returns-4 : tie.Need-returns-4
+unfolding rowIn operandsHeld
+returns-4 c =
+    let c3 = c .before .before in
+    let c2 = c3 .before .before .before .before in
+    let c1 = c2 .before .before .before .before in
+    let c0 = c1 .before .before .before .before in
+    let e = c0 .before .before .before in
+    let t = c0 .put-signs4 in
+    let s0 = spelling (e .before .before .before .pre) (e .ins4 .given .1) (t .result .from) (t .ensures) (t .kept .0) in
+    let s1 = part-next (c1 .put-part4 .result .from) s0 (c1 .put-part4 .ensures) (c1 .put-part4 .kept .0) in
+    let s2 = part-next (c2 .put-part5 .result .from) s1 (c2 .put-part5 .ensures) (c2 .put-part5 .kept .0) in
+    let s3 = part-next (c3 .put-part6 .result .from) s2 (c3 .put-part6 .ensures) (c3 .put-part6 .kept .0) in
+    all-parts s3
+
+same-length-5 : tie.Need-same-length-5
+same-length-5 c = search needs
+
+returns-5 : tie.Need-returns-5
+unfolding rowIn operandsHeld
+returns-5 c =
+    let c4 = c .before .before in
+    let c3 = c4 .before .before .before .before in
+    let c2 = c3 .before .before .before .before in
+    let c1 = c2 .before .before .before .before in
+    let c0 = c1 .before .before .before .before in
+    let e = c0 .before .before .before in
+    let t = c0 .put-signs5 in
+    let s0 = spelling (e .before .before .before .pre) (e .ins5 .given .1) (t .result .from) (t .ensures) (t .kept .0) in
+    let s1 = part-next (c1 .put-part7 .result .from) s0 (c1 .put-part7 .ensures) (c1 .put-part7 .kept .0) in
+    let s2 = part-next (c2 .put-part8 .result .from) s1 (c2 .put-part8 .ensures) (c2 .put-part8 .kept .0) in
+    let s3 = part-next (c3 .put-part9 .result .from) s2 (c3 .put-part9 .ensures) (c3 .put-part9 .kept .0) in
+    let s4 = part-next (c4 .put-part10 .result .from) s3 (c4 .put-part10 .ensures) (c4 .put-part10 .kept .0) in
+    all-parts s4
 
 pub put-instruction-spec : {M : Type 1} → statement M
 put-instruction-spec =
     tie.close
     (tie.spec
-    Inv-loop
-    μ-loop
-    row-in-requires
-    loop-holds
-    form-requires
-    add-p
-    operand-in-requires
-    put-operand-requires
-    add-t
-    loop-less
-    loop-again
-    put-byte-requires
-    add-at
+    enum-known-ins
+    mul-put-signs
+    put-signs-requires
+    enum-known-ins-2
+    mul-put-signs-2
+    put-signs-requires-2
+    put-part-requires
+    enum-known-ins-3
+    mul-put-signs-3
+    put-signs-requires-3
+    put-part-requires-2
+    put-part-requires-3
+    enum-known-ins-4
+    mul-put-signs-4
+    put-signs-requires-4
+    put-part-requires-4
+    put-part-requires-5
+    put-part-requires-6
+    enum-known-ins-5
+    mul-put-signs-5
+    put-signs-requires-5
+    put-part-requires-7
+    put-part-requires-8
+    put-part-requires-9
+    put-part-requires-10
     same-length
     returns
-    loop-less-2
-    loop-again-2)
+    same-length-2
+    returns-2
+    same-length-3
+    returns-3
+    same-length-4
+    returns-4
+    same-length-5
+    returns-5)

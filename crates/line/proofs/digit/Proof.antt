@@ -1,0 +1,16 @@
+use Rattle.line.proofs.Octal.{octal-glyph}
+use borrow.Author.Needs.{needs}
+use Rattle.line.proofs.digit.Statement.{statement}
+use Rattle.line.proofs.digit.Tie as tie
+
+cast-result : tie.Need-cast-result
+cast-result c = search needs
+
+add-result : tie.Need-add-result
+add-result c = search needs
+
+returns : tie.Need-returns
+returns c = octal-glyph (c .args .n)
+
+pub digit-spec : {M : Type 1} → statement M
+digit-spec = tie.close (tie.spec cast-result add-result returns)
