@@ -3,31 +3,25 @@ use mathlib.Core.Path.{_≡_, refl, sym, ap, _∙_, subst}
 use mathlib.Core.Bool.{Bool, true, false, not, _&&_}
 use mathlib.Core.List.{List, [], _∷_, _++_, append-nil}
 use Prim.Native.Nat.{ℕ, zero, suc, _+_, _-_, _*_, _/_, _%_, _^_, _≤_, _<_}
-use native.Mathlib.Nat.{zero-add, add-zero, le-of-suc-le-suc, mod-lt}
-use native.Mathlib.Numerals.{add-one}
+use native.Mathlib.Nat.{le-of-suc-le-suc}
 use native.Mathlib.Omega.{arith}
-use lib.ListN.{length, getD, take, drop, set, replicate, length-append, length-drop, drop-of-length-le}
-use lib.Seq.{sets, sets-eq, drop-cons, drop-drop, getD-drop, length-take-le}
+use lib.ListN.{length, getD, drop, replicate, length-drop}
+use lib.Seq.{sets, drop-drop, getD-drop}
 use lib.Dec.{eqb, ltb, leb}
-use borrow.Author.Tests.{eqb-true, eqb-false, ltb-true, ltb-false, leb-true, leb-false, eq-eqb, ne-eqb, le-leb, lt-leb}
+use borrow.Author.Tests.{eqb-true, eqb-false, ltb-true, ltb-false, leb-true, leb-false}
 use Rattle.machine.specs.State.{bit}
 use Rattle.machine.specs.Word.{pick}
-use Rattle.text.specs.Report.{Wrote}
-use Rattle.text.proofs.Writing.{sets-append, then, wrote-as}
 use Rattle.spelling.specs.Spelling.{second}
-use Rattle.spelling.specs.Listing.{dataLine, lineOf, listOf, firstLine, parcelsIn, listed, roomListed}
-use Rattle.spelling.specs.Rows.{rowOf, secondRow}
-use Rattle.spelling.specs.Candidate.{Guess, Numeral, numberAt, digitAt, one, both, withNumber, guessWith, guessBy, guessOf, packed}
-use Rattle.spelling.specs.Assembling.{begins, Line, Good, Bad, lineIs, ifLast, lineBy, parcelsOf, Reading, All, Wrong, before, readLine, readFrom, readOf, roomAfter, assembled, roomAssembled}
-use Rattle.spelling.specs.declared.Assembled.the-variants.{Parcels, BadLine, Overfull}
-use Rattle.spelling.specs.declared.Listed.the-variants.{Bytes, TooLong}
+use Rattle.spelling.specs.Listing.{dataLine, lineOf, listed}
+use Rattle.spelling.specs.Rows.{rowOf}
+use Rattle.spelling.specs.Candidate.{Guess, one, guessBy, guessOf, packed}
+use Rattle.spelling.specs.Assembling.{begins, Good, Bad, lineIs, ifLast, lineBy, parcelsOf, readLine}
 use Rattle.spelling.proofs.Lines.{data-length, line-most}
-use Rattle.spelling.proofs.Table.{second-of-row}
-use Rattle.spelling.proofs.Texts.{begins-short, ahead, ahead-none, ahead-more, read-none, read-bad, read-good, list-next, Narrow}
-use Rattle.line.proofs.Laws.{row-small}
+use Rattle.spelling.proofs.Table.{row-small}
+use Rattle.spelling.proofs.Texts.{begins-short}
+use Rattle.readback.proofs.Guessed.{first-below, second-below}
 use Rattle.assembly.proofs.Same.{sets-front}
-use Rattle.assembly.proofs.Scratch.{first-below, second-below}
-use Rattle.assembly.specs.Reads.{lineFor, parcelsFor, endsText, Hears, readAs, ReadsAs, Fits, unpacked}
+use Rattle.assembly.specs.Reads.{lineFor, parcelsFor, endsText, Hears, readAs, ReadsAs, unpacked}
 use Rattle.assembly.specs.declared.Heard.{Heard}
 use Rattle.assembly.specs.declared.Read.the-variants.{Line as ALine, NoLine}
 

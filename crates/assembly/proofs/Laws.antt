@@ -1,34 +1,33 @@
 -- Texts read and stored line by line, parcels listed, and what is answered. Assumes nothing.
 use mathlib.Core.Path.{_≡_, refl, sym, ap, _∙_, subst}
-use mathlib.Core.Bool.{Bool, true, false, not, _&&_}
+use mathlib.Core.Bool.{Bool, true, false}
 use mathlib.Core.List.{List, [], _∷_, _++_, append-nil}
-use Prim.Native.Nat.{ℕ, zero, suc, _+_, _-_, _*_, _/_, _%_, _^_, _≤_, _<_}
-use native.Mathlib.Nat.{zero-add, add-zero, le-of-suc-le-suc}
+use Prim.Native.Nat.{ℕ, _+_, _-_, _/_, _%_, _^_, _≤_, _<_}
+use native.Mathlib.Nat.{zero-add, add-zero}
 use native.Mathlib.Numerals.{add-one}
 use native.Mathlib.Omega.{arith}
-use lib.ListN.{length, getD, take, drop, set, replicate, length-append, length-drop, drop-of-length-le}
-use lib.Seq.{sets, sets-eq, drop-cons, drop-drop, getD-drop, length-take-le}
-use lib.Dec.{eqb, ltb, leb}
-use borrow.Author.Tests.{eqb-true, eqb-false, ltb-true, ltb-false, leb-true, leb-false, eq-eqb, ne-eqb, le-leb, lt-leb}
-use Rattle.machine.specs.State.{bit}
+use lib.ListN.{length, getD, drop, set, length-append, length-drop, drop-of-length-le}
+use lib.Seq.{sets, drop-cons, drop-drop, getD-drop}
+use lib.Dec.{eqb, leb}
+use borrow.Author.Tests.{leb-true, leb-false, eq-eqb, ne-eqb, le-leb, lt-leb}
 use Rattle.machine.specs.Word.{pick}
 use Rattle.text.specs.Report.{Wrote}
-use Rattle.text.proofs.Writing.{sets-append, then, wrote-as}
+use Rattle.text.proofs.Writing.{sets-append}
 use Rattle.spelling.specs.Spelling.{second}
 use Rattle.spelling.specs.Listing.{dataLine, lineOf, listOf, firstLine, parcelsIn, listed, roomListed}
 use Rattle.spelling.specs.Rows.{rowOf, secondRow}
-use Rattle.spelling.specs.Candidate.{Guess, guessBy, guessOf, packed}
-use Rattle.spelling.specs.Assembling.{begins, Line, Good, Bad, lineIs, ifLast, lineBy, parcelsOf, Reading, All, Wrong, before, readLine, readFrom, readOf, roomAfter, assembled, roomAssembled}
+use Rattle.spelling.specs.Candidate.{guessOf, packed}
+use Rattle.spelling.specs.Assembling.{Line, Good, Bad, parcelsOf, Reading, All, Wrong, before, readLine, readFrom, readOf, roomAfter, assembled, roomAssembled}
 use Rattle.spelling.specs.declared.Assembled.the-variants.{Parcels, BadLine, Overfull}
 use Rattle.spelling.specs.declared.Listed.the-variants.{Bytes, TooLong}
 use Rattle.spelling.proofs.Lines.{data-length, line-most}
-use Rattle.spelling.proofs.Table.{second-of-row}
-use Rattle.spelling.proofs.Texts.{begins-short, ahead, ahead-none, ahead-more, read-none, read-bad, read-good, list-next, Narrow}
-use Rattle.line.proofs.Laws.{row-small}
+use Rattle.spelling.proofs.Table.{second-of-row, row-small}
+use Rattle.spelling.proofs.Texts.{ahead, ahead-none, ahead-more, read-none, read-bad, read-good, list-next, Narrow}
+use Rattle.readback.proofs.Guessed.{first-below, second-below}
+use Rattle.readback.proofs.Good.{guess-read}
+use Rattle.readback.proofs.Theorems.{line-read, line-newline}
 use Rattle.assembly.proofs.Guessing.{packed-length, unpacked-is}
-use Rattle.assembly.specs.Reads.{lineFor, parcelsFor, endsText, Hears, readAs, ReadsAs, Fits, unpacked}
-use Rattle.assembly.specs.declared.Heard.{Heard}
-use Rattle.assembly.specs.declared.Read.the-variants.{Line as ALine, NoLine}
+use Rattle.assembly.specs.Reads.{Fits, unpacked}
 
 -- a text in the middle of its reading: done are the parcels of the k lines before `at`
 pub record Passed (text : List ℕ) (at k : ℕ) (done : List ℕ) : Type 0 where
@@ -121,29 +120,30 @@ pub record Stored (text : List ℕ) (at k n : ℕ) (done : List ℕ) (g : ℕ) :
   pub on : at < at + g / 2 ^ 33
   pub next : Passed text (at + g / 2 ^ 33) (k + 1) (done ++ unpacked g)
 
-module _ (guess-read : (s ps rest : List ℕ) → readLine s ≡ Good ps rest → (ps ≡ parcelsOf (guessOf s)) × (rest ≡ drop (guessOf s .length) s) × (guessOf s .length ≤ length s))
-    (shorter : (s ps rest : List ℕ) → readLine s ≡ Good ps rest → length rest < length s)
-    (first-below : (s : List ℕ) → guessOf s .first < 65536) (second-below : (s : List ℕ) → guessOf s .second < 65536) where
-  pub store-next : (text : List ℕ) (at k : ℕ) (done : List ℕ) (n g : ℕ) → Passed text at k done → at < length text → Fits n (readOf text)
-      → g ≡ packed (guessOf (drop at text)) → Stored text at k n done g
-  store-next text at k done n g p more f is =
-      let s = drop at text in
-      let found = passed-fits text at k done p more n f in
-      let read = guess-read s (found .0) (found .1) (found .2) in
-      let size : g / 2 ^ 33 ≡ guessOf s .length = ap (λ (j : ℕ). j / 2 ^ 33) is ∙ packed-length (guessOf s) (first-below s) (second-below s) in
-      let same : found .0 ≡ unpacked g = read .0 ∙ sym (unpacked-is (guessOf s) (first-below s) (second-below s)) ∙ ap unpacked (sym is) in
-      let long = length-drop at text in
-      let less = shorter s (found .0) (found .1) (found .2) in
-      let dropped = ap length (read .1) ∙ length-drop (guessOf s .length) s in
-      let rest : found .1 ≡ drop (at + g / 2 ^ 33) text = read .1 ∙ drop-drop (guessOf s .length) at text ∙ ap (λ (j : ℕ). drop (at + j) text) (sym size) in
-      let good : readLine s ≡ Good (unpacked g) (drop (at + g / 2 ^ 33) text) = found .2 ∙ ap (λ (qs : List ℕ). Good qs (found .1)) same ∙ ap (λ (l : List ℕ). Good (unpacked g) l) rest in
-      let on : at < at + g / 2 ^ 33 = omega (arith, size, less, dropped) in
-      let inside : at + g / 2 ^ 33 ≤ length text = (let l = read .2 in omega (arith, size, l, long)) in
-      record {
-        fits = subst (λ (qs : List ℕ). length done + length qs ≤ n) same (found .3);
-        on = on;
-        next = passed-good text at k done p more (unpacked g) (at + g / 2 ^ 33) on inside good;
-      }
+-- a line that is read is not empty
+shorter : (s ps rest : List ℕ) → readLine s ≡ Good ps rest → length rest < length s
+shorter s ps rest e = let n = line-newline (line-read s ps rest .0 e) in omega (arith, n)
+
+pub store-next : (text : List ℕ) (at k : ℕ) (done : List ℕ) (n g : ℕ) → Passed text at k done → at < length text → Fits n (readOf text)
+    → g ≡ packed (guessOf (drop at text)) → Stored text at k n done g
+store-next text at k done n g p more f is =
+    let s = drop at text in
+    let found = passed-fits text at k done p more n f in
+    let read = guess-read s (found .0) (found .1) (found .2) in
+    let size : g / 2 ^ 33 ≡ guessOf s .length = ap (λ (j : ℕ). j / 2 ^ 33) is ∙ packed-length (guessOf s) (first-below s) (second-below s) in
+    let same : found .0 ≡ unpacked g = read .0 ∙ sym (unpacked-is (guessOf s) (first-below s) (second-below s)) ∙ ap unpacked (sym is) in
+    let long = length-drop at text in
+    let less = shorter s (found .0) (found .1) (found .2) in
+    let dropped = ap length (read .1) ∙ length-drop (guessOf s .length) s in
+    let rest : found .1 ≡ drop (at + g / 2 ^ 33) text = read .1 ∙ drop-drop (guessOf s .length) at text ∙ ap (λ (j : ℕ). drop (at + j) text) (sym size) in
+    let good : readLine s ≡ Good (unpacked g) (drop (at + g / 2 ^ 33) text) = found .2 ∙ ap (λ (qs : List ℕ). Good qs (found .1)) same ∙ ap (λ (l : List ℕ). Good (unpacked g) l) rest in
+    let on : at < at + g / 2 ^ 33 = omega (arith, size, less, dropped) in
+    let inside : at + g / 2 ^ 33 ≤ length text = (let l = read .2 in omega (arith, size, l, long)) in
+    record {
+      fits = subst (λ (qs : List ℕ). length done + length qs ≤ n) same (found .3);
+      on = on;
+      next = passed-good text at k done p more (unpacked g) (at + g / 2 ^ 33) on inside good;
+    }
 
 pub sets-more : (first room after done ps : List ℕ) (n : ℕ) → room ≡ sets first 0 done → length done ≡ n → after ≡ sets room n ps
     → after ≡ sets first 0 (done ++ ps)

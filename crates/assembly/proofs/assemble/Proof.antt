@@ -6,49 +6,34 @@ use Rattle.assembly.proofs.Laws.{assembled-bad, assembled-full, assembl
 use borrow.Author.Needs.{needs}
 use Rattle.assembly.proofs.assemble.Statement.{statement}
 use Rattle.assembly.proofs.assemble.Tie as tie
-use Rattle.assembly.proofs.assemble.Reads as reads
-use Rattle.assembly.proofs.assemble.Lts as lts
-use Rattle.assembly.proofs.look_through.Reads as look-through-reads
-use Rattle.assembly.proofs.plan_table.Reads as plan-table-reads
-use Rattle.assembly.proofs.store.Reads as store-reads
 
--- src/lib.rt:269:17
 plan-table-requires : tie.Need-plan-table-requires
 plan-table-requires c κs = search needs
 
--- src/lib.rt:270:11
 look-through-requires : tie.Need-look-through-requires
 look-through-requires c κs = search needs
 
--- src/lib.rt:271:24
 enum-known-lines : tie.Need-enum-known-lines
 enum-known-lines c = search needs
 
--- src/lib.rt:271:53
 add-t10 : tie.Need-add-t10
 add-t10 c = let k = subst (Checks (c .before .before .before .before .before .before .before .before .args .text .now)) (c .before .lines .given .1) (c .before .before .before .look-through .ensures) in let l = k .1 in omega (arith, l)
 
--- src/lib.rt:272:24
 enum-known-n : tie.Need-enum-known-n
 enum-known-n c = search needs
 
--- src/lib.rt:274:17
 returns : tie.Need-returns
 returns c = let a = c .before .before .before .before .before .before .before .before .before .args in let k = subst (Checks (a .text .now)) (c .before .before .n .given .1) (c .before .before .before .before .look-through .ensures) in assembled-full (a .text .now) (a .room .now) (k .0) _ (k .1) (k .2) (c .if1 .taken)
 
--- src/lib.rt:276:13
 store-requires : tie.Need-store-requires
 store-requires c κs = let a = c .before .before .before .before .before .before .before .before .before .before .before .args in let k = subst (Checks (a .text .now)) (c .before .before .before .before .n .given .1) (c .before .before .before .before .before .before .look-through .ensures) in (assembled-fits (a .text .now) (a .room .now) (k .0) _ (k .1) (k .2) (c .before .before .if1 .left), c .before .before .before .before .before .before .before .before .plan-table .ensures)
 
--- src/lib.rt:265:1
 returns-2 : tie.Need-returns-2
 returns-2 c = let a = c .before .before .before .before .before .before .before .before .args in let k = subst (Checks (a .text .now)) (c .before .lines .given .1) (c .before .before .before .look-through .ensures) in assembled-bad (a .text .now) (a .room .now) _ (k .0)
 
--- src/lib.rt:265:1
 same-length : tie.Need-same-length
 same-length c = search needs
 
--- src/lib.rt:265:1
 returns-3 : tie.Need-returns-3
 unfolding roomAssembled
 returns-3 c = let a = c .before .before .before .before .before .before .before .before .before .before .before .before .before .before .args in let k = subst (Checks (a .text .now)) (c .before .before .before .before .before .before .before .n .given .1) (c .before .before .before .before .before .before .before .before .before .look-through .ensures) in (assembled-all (a .text .now) (a .room .now) (k .0) _ (k .1) (k .2) (c .before .before .before .before .before .if1 .left), c .before .before .store .ensures)

@@ -1,14 +1,12 @@
 use denote.Ref.{now}
 use mathlib.Core.Path.{_≡_, refl, sym, ap, _∙_}
-use Prim.Native.Nat.{ℕ, _+_, _-_, _≤_, _<_}
+use Prim.Native.Nat.{ℕ, _+_, _-_, _≤_}
 use lib.ListN.{length, getD, take, drop, set, length-set, length-drop, replicate}
 use lib.Seq.{sets, length-take-le, getD-take, getD-drop}
 use native.Mathlib.Omega.{arith}
 use Rattle.assembly.proofs.Same.{copy-next, copy-done, sets-whole}
 use Rattle.assembly.proofs.copied.Statement.{statement}
 use Rattle.assembly.proofs.copied.Tie as tie
-use Rattle.assembly.proofs.copied.Reads as reads
-use Rattle.assembly.proofs.copied.Lts as lts
 
 abbrev Inv-loop : tie.InvT-loop
 Inv-loop text at line₀ i₀ line i = (length line ≡ 16) × (i ≤ 16) × (sets (replicate 16 0) 0 (take 16 (drop at text)) ≡ sets line i (drop i (take 16 (drop at text))))
@@ -16,35 +14,27 @@ Inv-loop text at line₀ i₀ line i = (length line ≡ 16) × (i ≤ 16) × (se
 abbrev μ-loop : tie.MeasureT-loop
 μ-loop text at line₀ i₀ line i = 16 - i
 
--- src/lib.rt:51:5
 loop-holds : tie.Need-loop-holds Inv-loop μ-loop
 loop-holds c = (refl, omega arith, refl)
 
--- src/lib.rt:52:24
 add-line : tie.Need-add-line Inv-loop μ-loop
 add-line c = omega arith
 
--- src/lib.rt:52:19
 shared-slice-read-line : tie.Need-shared-slice-read-line Inv-loop μ-loop
 shared-slice-read-line c = omega arith
 
--- src/lib.rt:52:9
 array-write-line : tie.Need-array-write-line Inv-loop μ-loop
 array-write-line c = let l = c .before .before .loop .inv .0 in omega (arith, l)
 
--- src/lib.rt:53:9
 add-i : tie.Need-add-i Inv-loop μ-loop
 add-i c = omega arith
 
--- src/lib.rt:51:5
 loop-less : tie.Need-loop-less Inv-loop μ-loop
 loop-less c = omega arith
 
--- src/lib.rt:51:5
 loop-again : tie.Need-loop-again Inv-loop μ-loop
 loop-again c = let a = c .before .before .before .args in let s = drop (a .at) (a .text .now) in let long = length-drop (a .at) (a .text .now) in let all = length-take-le 16 s (omega (arith, long)) in let byte : getD (take 16 s) (c .before .before .loop .i) 0 ≡ getD (a .text .now) (a .at + c .before .before .loop .i) 0 = getD-take 16 s (c .before .before .loop .i) 0 (c .before .loop-test .taken) ∙ getD-drop (a .at) (a .text .now) (c .before .before .loop .i) 0 in (length-set (c .before .before .loop .line) (c .before .before .loop .i) _ ∙ c .before .before .loop .inv .0, omega arith, c .before .before .loop .inv .2 ∙ copy-next (take 16 s) (c .before .before .loop .line) (c .before .before .loop .i) (omega (arith, all)) ∙ ap (λ (b : ℕ). sets (set (c .before .before .loop .line) (c .before .before .loop .i) b) (c .before .before .loop .i + 1) (drop (c .before .before .loop .i + 1) (take 16 s))) byte)
 
--- src/lib.rt:45:1
 returns : tie.Need-returns Inv-loop μ-loop
 returns c = let a = c .before .before .args in let s = drop (a .at) (a .text .now) in let long = length-drop (a .at) (a .text .now) in let all = length-take-le 16 s (omega (arith, long)) in sym (copy-done (take 16 s) (c .before .loop .line) (c .before .loop .i) (omega (arith, all))) ∙ sym (c .before .loop .inv .2) ∙ sets-whole (replicate 16 0) (take 16 s) all
 

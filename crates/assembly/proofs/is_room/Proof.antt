@@ -7,13 +7,10 @@ use native.Mathlib.Nat.{zero-add}
 use borrow.Author.Tests.{le-leb}
 use Rattle.spelling.specs.Listing.{listOf}
 use Rattle.spelling.proofs.Texts.{list-most}
-use Rattle.line.proofs.Laws.{row-small}
+use Rattle.spelling.proofs.Table.{row-small}
 use Rattle.assembly.proofs.Laws.{first-most, lines-next, no-lines, room-next, room-short}
 use Rattle.assembly.proofs.is_room.Statement.{statement}
 use Rattle.assembly.proofs.is_room.Tie as tie
-use Rattle.assembly.proofs.is_room.Reads as reads
-use Rattle.assembly.proofs.is_room.Lts as lts
-use Rattle.assembly.proofs.put_next.Reads as put-next-reads
 
 abbrev Inv-loop : tie.InvT-loop
 Inv-loop parcels room forms operands line₀ left₀ at₀ line left at = (length line ≡ 16) × (at ≤ length parcels) × (leb (length (listOf parcels)) room ≡ leb (length (listOf (drop at parcels))) left)
@@ -21,35 +18,27 @@ Inv-loop parcels room forms operands line₀ left₀ at₀ line left at = (lengt
 abbrev μ-loop : tie.MeasureT-loop
 μ-loop parcels room forms operands line₀ left₀ at₀ line left at = length parcels - at
 
--- src/lib.rt:322:9
 returns : tie.Need-returns Inv-loop μ-loop
 returns c = let k = c .before .shared-slice-known .given in let most = list-most row-small (c .before .before .args .parcels .now) (λ i. let b = k i in omega (arith, b)) in sym (le-leb (length (listOf (c .before .before .args .parcels .now))) (c .before .before .args .room) (omega (arith, most)))
 
--- src/lib.rt:327:5
 loop-holds : tie.Need-loop-holds Inv-loop μ-loop
 loop-holds c = (refl, omega arith, refl)
 
--- src/lib.rt:328:29
 slice-aggregate-put-next : tie.Need-slice-aggregate-put-next Inv-loop μ-loop
 slice-aggregate-put-next c = sym (c .before .before .loop .inv .0)
 
--- src/lib.rt:328:13
 put-next-requires : tie.Need-put-next-requires Inv-loop μ-loop
 put-next-requires c κs = let a = c .before .before .before .before .before .args in let k = c .before .before .before .before .shared-slice-known .given in let few = first-most (a .parcels .now) (c .before .before .loop .at) (λ i. let b = k i in omega (arith, b)) (c .before .loop-test .taken) in let l = c .before .before .loop .inv .0 in (c .before .loop-test .taken, omega (arith, few, l), c .before .before .before .before .before .pre .0, c .before .before .before .before .before .pre .1)
 
--- src/lib.rt:330:13
 returns-2 : tie.Need-returns-2 Inv-loop μ-loop
 returns-2 c = let n = c .before .before .before .put-next .ensures in let b = n .0 .place ∙ zero-add _ in sym (c .before .before .before .before .before .before .loop .inv .2 ∙ room-short _ _ _ _ (lines-next _ _ (c .before .before .before .before .before .loop-test .taken) _ _ b (n .1 .0)) (c .if2 .taken))
 
--- src/lib.rt:327:5
 loop-less : tie.Need-loop-less Inv-loop μ-loop
 loop-less c = let n = c .before .before .before .before .put-next .ensures in let l = n .1 .2 in let s = n .1 .1 in omega (arith, l, s)
 
--- src/lib.rt:327:5
 loop-again : tie.Need-loop-again Inv-loop μ-loop
 loop-again c = let n = c .before .before .before .before .put-next .ensures in let b = n .0 .place ∙ zero-add _ in (c .before .before .before .before .put-next .kept .0 ∙ c .before .before .before .before .before .before .before .loop .inv .0, n .1 .2, c .before .before .before .before .before .before .before .loop .inv .2 ∙ room-next _ _ _ _ (lines-next _ _ (c .before .before .before .before .before .before .loop-test .taken) _ _ b (n .1 .0)) (c .before .if2 .left))
 
--- src/lib.rt:317:1
 returns-3 : tie.Need-returns-3 Inv-loop μ-loop
 returns-3 c = sym (c .before .loop .inv .2 ∙ ap (λ (k : ℕ). leb k (c .before .loop .left)) (ap length (no-lines (c .before .before .before .before .args .parcels .now) (c .before .loop .at) (omega arith))) ∙ le-leb 0 (c .before .loop .left) (omega arith))
 

@@ -6,38 +6,25 @@ use Rattle.assembly.proofs.Laws.{listed-not, listed-all}
 use borrow.Author.Needs.{needs}
 use Rattle.assembly.proofs.list.Statement.{statement}
 use Rattle.assembly.proofs.list.Tie as tie
-use Rattle.assembly.proofs.list.Reads as reads
-use Rattle.assembly.proofs.list.Lts as lts
-use Rattle.assembly.proofs.forms.Reads as forms-reads
-use Rattle.assembly.proofs.is_room.Reads as is-room-reads
-use Rattle.assembly.proofs.operands.Reads as operands-reads
-use Rattle.assembly.proofs.write.Reads as write-reads
 
--- src/lib.rt:358:17
 forms-requires : tie.Need-forms-requires
 forms-requires c κs = search needs
 
--- src/lib.rt:359:20
 operands-requires : tie.Need-operands-requires
 operands-requires c κs = search needs
 
--- src/lib.rt:360:9
 is-room-requires : tie.Need-is-room-requires
 is-room-requires c κs = search needs
 
--- src/lib.rt:361:9
 returns : tie.Need-returns
 returns c = let a = c .before .before .before .before .before .before .before .before .args in listed-not (a .parcels .now) (a .room .now) (sym (c .before .is-room .ensures) ∙ not-true _ (c .if1 .taken))
 
--- src/lib.rt:363:19
 write-requires : tie.Need-write-requires
 write-requires c κs = let a = c .before .before .before .before .before .before .before .before .before .before .before .args in (leb-true (length (listOf (a .parcels .now))) (length (a .room .now)) (sym (c .before .before .before .before .is-room .ensures) ∙ not-false _ (c .before .before .before .if1 .left)), c .before .before .before .before .before .before .before .before .forms .ensures, c .before .before .before .before .before .before .before .operands .ensures)
 
--- src/lib.rt:354:1
 same-length : tie.Need-same-length
 same-length c = search needs
 
--- src/lib.rt:354:1
 returns-2 : tie.Need-returns-2
 returns-2 c = let a = c .before .before .before .before .before .before .before .before .before .before .before .before .before .before .args in listed-all (a .parcels .now) (a .room .now) _ _ (sym (c .before .before .before .before .before .before .before .is-room .ensures) ∙ not-false _ (c .before .before .before .before .before .before .if1 .left)) (c .before .before .write .ensures)
 

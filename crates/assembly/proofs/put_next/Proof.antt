@@ -1,5 +1,5 @@
-use mathlib.Core.Path.{_≡_, sym, ap, _∙_}
-use Prim.Native.Nat.{ℕ, _+_}
+use mathlib.Core.Path.{ap, _∙_}
+use Prim.Native.Nat.{_+_}
 use native.Mathlib.Omega.{arith}
 use borrow.Author.Tests.{not-true, not-false}
 use lib.ListN.{length}
@@ -9,98 +9,70 @@ use Rattle.assembly.proofs.Laws.{second-is, next-one, next-last, next-t
 use borrow.Author.Needs.{needs}
 use Rattle.assembly.proofs.put_next.Statement.{statement}
 use Rattle.assembly.proofs.put_next.Tie as tie
-use Rattle.assembly.proofs.put_next.Reads as reads
-use Rattle.assembly.proofs.put_next.Lts as lts
-use Rattle.assembly.proofs.has_second.Reads as has-second-reads
-use Rattle.assembly.proofs.put_data.Reads as put-data-reads
-use Rattle.assembly.proofs.put_line.Reads as put-line-reads
-use Rattle.assembly.proofs.row_of.Reads as row-of-reads
 
--- src/lib.rt:295:13
 mul-x : tie.Need-mul-x
 mul-x c = search needs
 
--- src/lib.rt:295:13
 shared-slice-read-x : tie.Need-shared-slice-read-x
 shared-slice-read-x c = search needs
 
--- src/lib.rt:295:13
 cast-x : tie.Need-cast-x
 cast-x c = let b = c .shared-slice-known2 .given (c .before .before .before .args .at) in omega (arith, b)
 
--- src/lib.rt:296:9
 row-of-requires : tie.Need-row-of-requires
 row-of-requires c κs = let b = c .shared-slice-known2 .given (c .before .before .before .args .at) in omega (arith, b)
 
--- src/lib.rt:297:9
 has-second-requires : tie.Need-has-second-requires
 has-second-requires c κs = search needs
 
--- src/lib.rt:299:17
 put-line-requires : tie.Need-put-line-requires
 put-line-requires c κs = let a = c .before .before .before .before .before .before .before .args in let p = c .before .before .before .before .before .before .before .pre in let b = c .before .before .before .before .shared-slice-known2 .given (a .at) in let n = next-one (a .parcels .now) (a .at) (p .0) (second-is _ _ _ (omega (arith, b)) (c .before .before .before .row-of .ensures .0) (c .before .before .has-second .ensures) ∙ not-true _ (c .before .if1 .taken)) in let e = ap length (n .0) in let room = p .1 in (omega (arith, e, room), c .before .before .before .row-of .ensures .0, omega (arith, b), omega arith, p .2, p .3)
 
--- src/lib.rt:300:17
 add-t18 : tie.Need-add-t18
 add-t18 c = search needs
 
--- src/lib.rt:298:9
 same-length : tie.Need-same-length
 same-length c = search needs
 
--- src/lib.rt:298:9
 returns : tie.Need-returns
 returns c = let a = c .before .before .before .before .before .before .before .before .before .before .args in let p = c .before .before .before .before .before .before .before .before .before .before .pre in let b = c .before .before .before .before .before .before .before .shared-slice-known2 .given (a .at) in let n = next-one (a .parcels .now) (a .at) (p .0) (second-is _ _ _ (omega (arith, b)) (c .before .before .before .before .before .before .row-of .ensures .0) (c .before .before .before .before .before .has-second .ensures) ∙ not-true _ (c .before .before .before .before .if1 .taken)) in let k = n .1 in (wrote-as (n .0) (c .before .before .put-line .ensures .0), (omega (arith, k), omega arith, omega arith))
 
--- src/lib.rt:303:8
 sub-if2 : tie.Need-sub-if2
 sub-if2 c = search needs
 
--- src/lib.rt:305:17
 put-data-requires : tie.Need-put-data-requires
 put-data-requires c κs = let a = c .before .before .before .before .before .before .before .before .args in let p = c .before .before .before .before .before .before .before .before .pre in let b = c .before .before .before .before .before .shared-slice-known2 .given (a .at) in let n = next-last (a .parcels .now) (a .at) (p .0) (second-is _ _ _ (omega (arith, b)) (c .before .before .before .before .row-of .ensures .0) (c .before .before .before .has-second .ensures) ∙ not-false _ (c .before .before .if1 .left)) (c .before .if2 .taken) in let e = ap length (n .0) ∙ data-length _ in let room = p .1 in (omega (arith, e, room), omega (arith, b))
 
--- src/lib.rt:306:17
 add-t23 : tie.Need-add-t23
 add-t23 c = search needs
 
--- src/lib.rt:304:9
 same-length-2 : tie.Need-same-length-2
 same-length-2 c = search needs
 
--- src/lib.rt:304:9
 returns-2 : tie.Need-returns-2
 returns-2 c = let a = c .before .before .before .before .before .before .before .before .before .before .before .args in let p = c .before .before .before .before .before .before .before .before .before .before .before .pre in let b = c .before .before .before .before .before .before .before .before .shared-slice-known2 .given (a .at) in let n = next-last (a .parcels .now) (a .at) (p .0) (second-is _ _ _ (omega (arith, b)) (c .before .before .before .before .before .before .before .row-of .ensures .0) (c .before .before .before .before .before .before .has-second .ensures) ∙ not-false _ (c .before .before .before .before .before .if1 .left)) (c .before .before .before .before .if2 .taken) in let k = n .1 in (wrote-as (n .0) (c .before .before .put-data .ensures .0), (omega (arith, k), omega arith, omega arith))
 
--- src/lib.rt:309:21
 add-m : tie.Need-add-m
 add-m c = search needs
 
--- src/lib.rt:309:13
 mul-m : tie.Need-mul-m
 mul-m c = search needs
 
--- src/lib.rt:309:13
 shared-slice-read-m : tie.Need-shared-slice-read-m
 shared-slice-read-m c = search needs
 
--- src/lib.rt:309:13
 cast-m : tie.Need-cast-m
 cast-m c = let b = c .shared-slice-known3 .given (c .before .before .before .before .before .before .before .before .args .at + 1) in omega (arith, b)
 
--- src/lib.rt:311:13
 put-line-requires-2 : tie.Need-put-line-requires-2
 put-line-requires-2 c κs = let a = c .before .before .before .before .before .before .before .before .before .args in let p = c .before .before .before .before .before .before .before .before .before .pre in let b = c .before .before .before .before .before .before .shared-slice-known2 .given (a .at) in let d = c .before .shared-slice-known3 .given (a .at + 1) in let n = next-two (a .parcels .now) (a .at) (p .0) (second-is _ _ _ (omega (arith, b)) (c .before .before .before .before .before .row-of .ensures .0) (c .before .before .before .before .has-second .ensures) ∙ not-false _ (c .before .before .before .if1 .left)) (c .before .before .if2 .left) in let e = ap length (n .0) in let room = p .1 in (omega (arith, e, room), c .before .before .before .before .before .row-of .ensures .0, omega (arith, b), omega (arith, d), p .2, p .3)
 
--- src/lib.rt:312:13
 add-t19 : tie.Need-add-t19
 add-t19 c = search needs
 
--- src/lib.rt:283:1
 same-length-3 : tie.Need-same-length-3
 same-length-3 c = search needs
 
--- src/lib.rt:283:1
 returns-3 : tie.Need-returns-3
 returns-3 c = let a = c .before .before .before .before .before .before .before .before .before .before .before .before .args in let p = c .before .before .before .before .before .before .before .before .before .before .before .before .pre in let b = c .before .before .before .before .before .before .before .before .before .shared-slice-known2 .given (a .at) in let n = next-two (a .parcels .now) (a .at) (p .0) (second-is _ _ _ (omega (arith, b)) (c .before .before .before .before .before .before .before .before .row-of .ensures .0) (c .before .before .before .before .before .before .before .has-second .ensures) ∙ not-false _ (c .before .before .before .before .before .before .if1 .left)) (c .before .before .before .before .before .if2 .left) in let k = n .1 in (wrote-as (n .0) (c .before .before .put-line2 .ensures .0), (omega (arith, k), omega arith, omega arith))
 

@@ -4,58 +4,43 @@ use Rattle.assembly.proofs.Laws.{put-one, put-two, parcels-least, parce
 use borrow.Author.Needs.{needs}
 use Rattle.assembly.proofs.put_parcels.Statement.{statement}
 use Rattle.assembly.proofs.put_parcels.Tie as tie
-use Rattle.assembly.proofs.put_parcels.Reads as reads
-use Rattle.assembly.proofs.put_parcels.Lts as lts
 
--- src/lib.rt:242:15
 cast-room : tie.Need-cast-room
 cast-room c = search needs
 
--- src/lib.rt:242:5
 mul-room : tie.Need-mul-room
 mul-room c = search needs
 
--- src/lib.rt:242:5
 slice-write-room : tie.Need-slice-write-room
 slice-write-room c = let n = parcels-least (c .args .g) in omega (arith, n, c .pre)
 
--- src/lib.rt:244:16
 add-result : tie.Need-add-result
 add-result c = let n = parcels-least (c .before .args .g) in omega (arith, n, c .before .pre)
 
--- src/lib.rt:244:9
 same-length : tie.Need-same-length
 same-length c = search needs
 
--- src/lib.rt:244:9
 returns : tie.Need-returns
 returns c = put-one _ _ _ (c .if1 .taken)
 
--- src/lib.rt:246:19
 cast-room-2 : tie.Need-cast-room-2
 cast-room-2 c = search needs
 
--- src/lib.rt:246:10
 add-room : tie.Need-add-room
 add-room c = let n = parcels-two (c .before .args .g) (c .if1 .left) in omega (arith, n, c .before .pre)
 
--- src/lib.rt:246:5
 mul-room-2 : tie.Need-mul-room-2
 mul-room-2 c = search needs
 
--- src/lib.rt:246:5
 slice-write-room-2 : tie.Need-slice-write-room-2
 slice-write-room-2 c = let n = parcels-two (c .before .args .g) (c .if1 .left) in simp length-set (omega (arith, n, c .before .pre))
 
--- src/lib.rt:247:5
 add-result-2 : tie.Need-add-result-2
 add-result-2 c = let n = parcels-two (c .before .args .g) (c .if1 .left) in omega (arith, n, c .before .pre)
 
--- src/lib.rt:238:1
 same-length-2 : tie.Need-same-length-2
 same-length-2 c = search needs
 
--- src/lib.rt:238:1
 returns-2 : tie.Need-returns-2
 returns-2 c = put-two _ _ _ (c .if1 .left)
 

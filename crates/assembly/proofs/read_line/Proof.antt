@@ -1,5 +1,4 @@
-use mathlib.Core.Path.{_≡_, sym, subst}
-use Prim.Native.Nat.{ℕ}
+use mathlib.Core.Path.{sym, subst}
 use native.Mathlib.Omega.{arith}
 use lib.ListN.{drop}
 use Rattle.spelling.specs.Assembling.{readLine}
@@ -9,45 +8,31 @@ use Rattle.assembly.proofs.Guessing.{heard-here, heard-padded}
 use borrow.Author.Needs.{needs}
 use Rattle.assembly.proofs.read_line.Statement.{statement}
 use Rattle.assembly.proofs.read_line.Tie as tie
-use Rattle.assembly.proofs.read_line.Reads as reads
-use Rattle.assembly.proofs.read_line.Lts as lts
-use Rattle.assembly.proofs.found.Reads as found-reads
-use Rattle.assembly.proofs.hear.Reads as hear-reads
-use Rattle.assembly.proofs.tail.Reads as tail-reads
 
--- src/lib.rt:183:16
 sub-left : tie.Need-sub-left
 sub-left c = search needs
 
--- src/lib.rt:185:32
 hear-requires : tie.Need-hear-requires
 hear-requires c κs = search needs
 
--- src/lib.rt:185:9
 found-requires : tie.Need-found-requires
 found-requires c κs = search needs
 
--- src/lib.rt:185:9
 returns : tie.Need-returns
 returns c = let a = c .before .before .before .before .args in subst (λ (r : Read). ReadsAs (a .text .now) (a .at) (readLine (drop (a .at) (a .text .now))) r) (sym (c .found .ensures)) (heard-here (a .text .now) (a .at) (c .before .before .before .before .pre .0) (c .before .hear .result) (c .before .hear .ensures))
 
--- src/lib.rt:187:16
 tail-requires : tie.Need-tail-requires
 tail-requires c κs = search needs
 
--- src/lib.rt:188:26
 slice-aggregate-hear : tie.Need-slice-aggregate-hear
 slice-aggregate-hear c = search needs
 
--- src/lib.rt:188:21
 hear-requires-2 : tie.Need-hear-requires-2
 hear-requires-2 c κs = search needs
 
--- src/lib.rt:188:5
 found-requires-2 : tie.Need-found-requires-2
 found-requires-2 c κs = search needs
 
--- src/lib.rt:173:1
 returns-2 : tie.Need-returns-2
 returns-2 c = let a = c .before .before .before .before .before .before .args in subst (λ (r : Read). ReadsAs (a .text .now) (a .at) (readLine (drop (a .at) (a .text .now))) r) (sym (c .found2 .ensures)) (heard-padded (a .text .now) (a .at) (c .before .before .before .before .before .before .pre .0) (c .before .hear2 .result) (c .before .before .before .tail .result) (c .before .before .before .tail .ensures) (omega arith) (c .before .hear2 .ensures))
 

@@ -1,14 +1,12 @@
 use denote.Ref.{now}
 use mathlib.Core.Path.{_≡_, refl, sym, ap, _∙_}
-use Prim.Native.Nat.{ℕ, _+_, _-_, _≤_, _<_}
+use Prim.Native.Nat.{ℕ, _+_, _-_, _≤_}
 use lib.ListN.{length, getD, drop, set, length-set, length-drop, replicate}
 use lib.Seq.{sets, getD-drop}
 use native.Mathlib.Omega.{arith}
 use Rattle.assembly.proofs.Same.{copy-next, copy-done}
 use Rattle.assembly.proofs.tail.Statement.{statement}
 use Rattle.assembly.proofs.tail.Tie as tie
-use Rattle.assembly.proofs.tail.Reads as reads
-use Rattle.assembly.proofs.tail.Lts as lts
 
 abbrev Inv-loop : tie.InvT-loop
 Inv-loop text at rest₀ n i₀ rest i = (length rest ≡ 64) × (i ≤ n) × (sets (replicate 64 10) 0 (drop at text) ≡ sets rest i (drop i (drop at text)))
@@ -16,39 +14,30 @@ Inv-loop text at rest₀ n i₀ rest i = (length rest ≡ 64) × (i ≤ n) × (s
 abbrev μ-loop : tie.MeasureT-loop
 μ-loop text at rest₀ n i₀ rest i = n - i
 
--- src/lib.rt:163:13
 sub-n : tie.Need-sub-n Inv-loop μ-loop
 sub-n c = omega arith
 
--- src/lib.rt:165:5
 loop-holds : tie.Need-loop-holds Inv-loop μ-loop
 loop-holds c = (refl, omega arith, refl)
 
--- src/lib.rt:166:24
 add-rest : tie.Need-add-rest Inv-loop μ-loop
 add-rest c = omega arith
 
--- src/lib.rt:166:19
 shared-slice-read-rest : tie.Need-shared-slice-read-rest Inv-loop μ-loop
 shared-slice-read-rest c = omega arith
 
--- src/lib.rt:166:9
 array-write-rest : tie.Need-array-write-rest Inv-loop μ-loop
 array-write-rest c = let l = c .before .before .loop .inv .0 in omega (arith, l)
 
--- src/lib.rt:167:9
 add-i : tie.Need-add-i Inv-loop μ-loop
 add-i c = omega arith
 
--- src/lib.rt:165:5
 loop-less : tie.Need-loop-less Inv-loop μ-loop
 loop-less c = omega arith
 
--- src/lib.rt:165:5
 loop-again : tie.Need-loop-again Inv-loop μ-loop
 loop-again c = let a = c .before .before .before .args in let s = drop (a .at) (a .text .now) in let long = length-drop (a .at) (a .text .now) in let byte : getD s (c .before .before .loop .i) 0 ≡ getD (a .text .now) (a .at + c .before .before .loop .i) 0 = getD-drop (a .at) (a .text .now) (c .before .before .loop .i) 0 in (length-set (c .before .before .loop .rest) (c .before .before .loop .i) _ ∙ c .before .before .loop .inv .0, omega arith, c .before .before .loop .inv .2 ∙ copy-next s (c .before .before .loop .rest) (c .before .before .loop .i) (omega (arith, long)) ∙ ap (λ (b : ℕ). sets (set (c .before .before .loop .rest) (c .before .before .loop .i) b) (c .before .before .loop .i + 1) (drop (c .before .before .loop .i + 1) s)) byte)
 
--- src/lib.rt:158:1
 returns : tie.Need-returns Inv-loop μ-loop
 returns c = let a = c .before .before .args in let s = drop (a .at) (a .text .now) in let long = length-drop (a .at) (a .text .now) in sym (copy-done s (c .before .loop .rest) (c .before .loop .i) (omega (arith, long))) ∙ sym (c .before .loop .inv .2)
 

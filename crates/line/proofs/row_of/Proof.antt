@@ -1,5 +1,5 @@
 use Rattle.spelling.specs.Rows.{rowOf}
-use Rattle.line.proofs.Laws.{row-small}
+use Rattle.spelling.proofs.Table.{row-small}
 use borrow.Author.Needs.{needs}
 use Rattle.line.proofs.row_of.Statement.{statement}
 use Rattle.line.proofs.row_of.Tie as tie
