@@ -189,12 +189,7 @@ fn read_line(
 }
 
 // Looks a text through, storing nothing.
-fn check(
-    text: &[u8],
-    forms: &[u8; 1284],
-    operands: &[u16; 428],
-    plans: &[u16; 864],
-) -> Checked
+fn check(text: &[u8], forms: &[u8; 1284], operands: &[u16; 428], plans: &[u16; 864]) -> Checked
     requires { ⌜ (now forms ≡ formTable) × (now operands ≡ operandTable) × (now plans ≡ planTable) ⌝ }
     ensures { λ r. ⌜ Checks (now (text .entry)) r ⌝ }
 {

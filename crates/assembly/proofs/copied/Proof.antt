@@ -33,10 +33,31 @@ loop-less : tie.Need-loop-less Inv-loop μ-loop
 loop-less c = omega arith
 
 loop-again : tie.Need-loop-again Inv-loop μ-loop
-loop-again c = let a = c .before .before .before .args in let s = drop (a .at) (a .text .now) in let long = length-drop (a .at) (a .text .now) in let all = length-take-le 16 s (omega (arith, long)) in let byte : getD (take 16 s) (c .before .before .loop .i) 0 ≡ getD (a .text .now) (a .at + c .before .before .loop .i) 0 = getD-take 16 s (c .before .before .loop .i) 0 (c .before .loop-test .taken) ∙ getD-drop (a .at) (a .text .now) (c .before .before .loop .i) 0 in (length-set (c .before .before .loop .line) (c .before .before .loop .i) _ ∙ c .before .before .loop .inv .0, omega arith, c .before .before .loop .inv .2 ∙ copy-next (take 16 s) (c .before .before .loop .line) (c .before .before .loop .i) (omega (arith, all)) ∙ ap (λ (b : ℕ). sets (set (c .before .before .loop .line) (c .before .before .loop .i) b) (c .before .before .loop .i + 1) (drop (c .before .before .loop .i + 1) (take 16 s))) byte)
+loop-again c =
+    let a = c .before .before .before .args in
+    let s = drop (a .at) (a .text .now) in
+    let long = length-drop (a .at) (a .text .now) in
+    let all = length-take-le 16 s (omega (arith, long)) in
+    let byte : getD (take 16 s) (c .before .before .loop .i) 0 ≡ getD (a .text .now) (a .at + c .before .before .loop .i) 0 =
+    getD-take 16 s (c .before .before .loop .i) 0 (c .before .loop-test .taken) ∙ getD-drop (a .at) (a .text .now) (c .before .before .loop .i) 0 in (
+      length-set (c .before .before .loop .line) (c .before .before .loop .i) _ ∙ c .before .before .loop .inv .0,
+      omega arith,
+      c .before .before .loop .inv .2
+          ∙ copy-next (take 16 s) (c .before .before .loop .line) (c .before .before .loop .i) (omega (arith, all))
+          ∙ ap
+          (λ (b : ℕ). sets (set (c .before .before .loop .line) (c .before .before .loop .i) b) (c .before .before .loop .i + 1) (drop (c .before .before .loop .i + 1) (take 16 s)))
+          byte,
+    )
 
 returns : tie.Need-returns Inv-loop μ-loop
-returns c = let a = c .before .before .args in let s = drop (a .at) (a .text .now) in let long = length-drop (a .at) (a .text .now) in let all = length-take-le 16 s (omega (arith, long)) in sym (copy-done (take 16 s) (c .before .loop .line) (c .before .loop .i) (omega (arith, all))) ∙ sym (c .before .loop .inv .2) ∙ sets-whole (replicate 16 0) (take 16 s) all
+returns c =
+    let a = c .before .before .args in
+    let s = drop (a .at) (a .text .now) in
+    let long = length-drop (a .at) (a .text .now) in
+    let all = length-take-le 16 s (omega (arith, long)) in
+    sym (copy-done (take 16 s) (c .before .loop .line) (c .before .loop .i) (omega (arith, all)))
+    ∙ sym (c .before .loop .inv .2)
+    ∙ sets-whole (replicate 16 0) (take 16 s) all
 
 pub copied-spec : {M : Type 1} → statement M
 copied-spec =

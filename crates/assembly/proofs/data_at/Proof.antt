@@ -16,16 +16,33 @@ slice-aggregate-put-data : tie.Need-slice-aggregate-put-data
 slice-aggregate-put-data c = search needs
 
 put-data-requires : tie.Need-put-data-requires
-put-data-requires c κs = let a = c .before .before .before .args in let s = drop (a .at) (a .text .now) in let long = length-drop (a .at) (a .text .now) in let n = ap length (c .before .copied .ensures) ∙ length-take-le 16 s (omega (arith, long)) in (omega (arith, n), c .before .before .before .pre .1)
+put-data-requires c κs =
+    let a = c .before .before .before .args in
+    let s = drop (a .at) (a .text .now) in
+    let long = length-drop (a .at) (a .text .now) in
+    let n = ap length (c .before .copied .ensures) ∙ length-take-le 16 s (omega (arith, long)) in
+    (omega (arith, n), c .before .before .before .pre .1)
 
 is-same-requires : tie.Need-is-same-requires
 is-same-requires c κs = search needs
 
 returns : tie.Need-returns
-returns c = let a = c .before .before .before .before .before .before .before .before .args in let s = drop (a .at) (a .text .now) in let long = length-drop (a .at) (a .text .now) in let n = data-length (a .x) in found-it s 16 (c .before .before .before .before .before .before .copied .ensures) (c .before .before .before .before .put-data .ensures .0) (omega (arith, long)) (omega (arith, n)) (sym (c .before .is-same .ensures) ∙ c .if1 .taken)
+returns c =
+    let a = c .before .before .before .before .before .before .before .before .args in
+    let s = drop (a .at) (a .text .now) in
+    let long = length-drop (a .at) (a .text .now) in
+    let n = data-length (a .x) in
+    found-it s 16 (c .before .before .before .before .before .before .copied .ensures) (c .before .before .before .before .put-data .ensures .0)
+    (omega (arith, long)) (omega (arith, n)) (sym (c .before .is-same .ensures) ∙ c .if1 .taken)
 
 returns-2 : tie.Need-returns-2
-returns-2 c = let a = c .before .before .before .before .before .before .before .before .args in let s = drop (a .at) (a .text .now) in let long = length-drop (a .at) (a .text .now) in let n = data-length (a .x) in found-none s 16 (c .before .before .before .before .before .before .copied .ensures) (c .before .before .before .before .put-data .ensures .0) (omega (arith, long)) (omega (arith, n)) (sym (c .before .is-same .ensures) ∙ c .if1 .left)
+returns-2 c =
+    let a = c .before .before .before .before .before .before .before .before .args in
+    let s = drop (a .at) (a .text .now) in
+    let long = length-drop (a .at) (a .text .now) in
+    let n = data-length (a .x) in
+    found-none s 16 (c .before .before .before .before .before .before .copied .ensures) (c .before .before .before .before .put-data .ensures .0)
+    (omega (arith, long)) (omega (arith, n)) (sym (c .before .is-same .ensures) ∙ c .if1 .left)
 
 pub data-at-spec : {M : Type 1} → statement M
 data-at-spec =

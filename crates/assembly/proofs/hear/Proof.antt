@@ -22,19 +22,36 @@ line-at-requires : tie.Need-line-at-requires
 line-at-requires c κs = search needs
 
 returns : tie.Need-returns
-returns c = let a = c .before .before .before .before .before .before .args in let low : c .before .before .before .before .guess .result % 65536 < 65536 = omega arith in hears-one (drop (a .at) (a .text .now)) (c .before .before .before .before .guess .result) (c .before .before .before .before .guess .ensures) _ (second-is _ _ _ low (c .before .before .before .row-of .ensures .0) (c .before .before .has-second .ensures) ∙ not-true _ (c .before .if1 .taken)) (c .line-at .ensures)
+returns c =
+    let a = c .before .before .before .before .before .before .args in
+    let low : c .before .before .before .before .guess .result % 65536 < 65536 = omega arith in
+    hears-one (drop (a .at) (a .text .now)) (c .before .before .before .before .guess .result) (c .before .before .before .before .guess .ensures) _
+    (second-is _ _ _ low (c .before .before .before .row-of .ensures .0) (c .before .before .has-second .ensures) ∙ not-true _ (c .before .if1 .taken))
+    (c .line-at .ensures)
 
 data-at-requires : tie.Need-data-at-requires
 data-at-requires c κs = search needs
 
 returns-2 : tie.Need-returns-2
-returns-2 c = let a = c .before .before .before .before .before .before .before .args in let low : c .before .before .before .before .before .guess .result % 65536 < 65536 = omega arith in hears-data (drop (a .at) (a .text .now)) (c .before .before .before .before .before .guess .result) (c .before .before .before .before .before .guess .ensures) _ (second-is _ _ _ low (c .before .before .before .before .row-of .ensures .0) (c .before .before .before .has-second .ensures) ∙ not-false _ (c .before .before .if1 .left)) (c .before .if2 .taken) (c .data-at .ensures)
+returns-2 c =
+    let a = c .before .before .before .before .before .before .before .args in
+    let low : c .before .before .before .before .before .guess .result % 65536 < 65536 = omega arith in
+    hears-data (drop (a .at) (a .text .now)) (c .before .before .before .before .before .guess .result)
+    (c .before .before .before .before .before .guess .ensures) _
+    (second-is _ _ _ low (c .before .before .before .before .row-of .ensures .0) (c .before .before .before .has-second .ensures) ∙ not-false _ (c .before .before .if1 .left))
+    (c .before .if2 .taken) (c .data-at .ensures)
 
 line-at-requires-2 : tie.Need-line-at-requires-2
 line-at-requires-2 c κs = search needs
 
 returns-3 : tie.Need-returns-3
-returns-3 c = let a = c .before .before .before .before .before .before .before .args in let low : c .before .before .before .before .before .guess .result % 65536 < 65536 = omega arith in hears-two (drop (a .at) (a .text .now)) (c .before .before .before .before .before .guess .result) (c .before .before .before .before .before .guess .ensures) _ (second-is _ _ _ low (c .before .before .before .before .row-of .ensures .0) (c .before .before .before .has-second .ensures) ∙ not-false _ (c .before .before .if1 .left)) (c .before .if2 .left) (c .line-at2 .ensures)
+returns-3 c =
+    let a = c .before .before .before .before .before .before .before .args in
+    let low : c .before .before .before .before .before .guess .result % 65536 < 65536 = omega arith in
+    hears-two (drop (a .at) (a .text .now)) (c .before .before .before .before .before .guess .result)
+    (c .before .before .before .before .before .guess .ensures) _
+    (second-is _ _ _ low (c .before .before .before .before .row-of .ensures .0) (c .before .before .before .has-second .ensures) ∙ not-false _ (c .before .before .if1 .left))
+    (c .before .if2 .left) (c .line-at2 .ensures)
 
 pub hear-spec : {M : Type 1} → statement M
 hear-spec =

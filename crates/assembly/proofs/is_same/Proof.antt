@@ -34,10 +34,22 @@ loop-less : tie.Need-loop-less Inv-loop μ-loop
 loop-less c = omega arith
 
 loop-again : tie.Need-loop-again Inv-loop μ-loop
-loop-again c = let a = c .before .before .before .before .before .args in let l = c .before .before .before .before .before .pre .1 in let inside : a .at + c .before .before .before .before .loop .p < length (a .text .now) = omega arith in let more : c .before .before .before .before .loop .p < length (a .line .now) = omega (arith, l) in (omega arith, ⊎-elim (λ w. w .1 ∙ sym (same-not (a .text .now) (a .line .now) (a .at) (c .before .before .before .before .loop .p) inside more (w .0 .taken))) (λ w. w .1 ∙ c .before .before .before .before .loop .inv .1 ∙ sym (same-next (a .text .now) (a .line .now) (a .at) (c .before .before .before .before .loop .p) inside more (w .0 .left))) (c .if1 .came))
+loop-again c =
+    let a = c .before .before .before .before .before .args in
+    let l = c .before .before .before .before .before .pre .1 in
+    let inside : a .at + c .before .before .before .before .loop .p < length (a .text .now) = omega arith in
+    let more : c .before .before .before .before .loop .p < length (a .line .now) = omega (arith, l) in (
+      omega arith,
+      ⊎-elim (λ w. w .1 ∙ sym (same-not (a .text .now) (a .line .now) (a .at) (c .before .before .before .before .loop .p) inside more (w .0 .taken)))
+          (λ w. w .1 ∙ c .before .before .before .before .loop .inv .1 ∙ sym (same-next (a .text .now) (a .line .now) (a .at) (c .before .before .before .before .loop .p) inside more (w .0 .left)))
+          (c .if1 .came),
+    )
 
 returns : tie.Need-returns Inv-loop μ-loop
-returns c = let a = c .before .before .args in c .before .loop .inv .1 ∙ ap (begins (drop (a .at) (a .text .now))) (take-all (c .before .loop .p) (a .line .now) (let l = c .before .before .pre .1 in omega (arith, l)))
+returns c =
+    let a = c .before .before .args in
+    c .before .loop .inv .1
+    ∙ ap (begins (drop (a .at) (a .text .now))) (take-all (c .before .loop .p) (a .line .now) (let l = c .before .before .pre .1 in omega (arith, l)))
 
 pub is-same-spec : {M : Type 1} → statement M
 is-same-spec =

@@ -18,16 +18,37 @@ slice-aggregate-put-line : tie.Need-slice-aggregate-put-line
 slice-aggregate-put-line c = search needs
 
 put-line-requires : tie.Need-put-line-requires
-put-line-requires c κs = let a = c .before .before .before .args in let p = c .before .before .before .pre in let s = drop (a .at) (a .text .now) in let long = length-drop (a .at) (a .text .now) in let n = ap length (c .before .copied .ensures) ∙ length-take-le 16 s (omega (arith, long)) in let few = line-most (a .x) (a .m) (p .2) (row-small (a .x) (p .2)) (p .3) .1 in (omega (arith, n, few), p .1, p .2, p .3, p .4, p .5)
+put-line-requires c κs =
+    let a = c .before .before .before .args in
+    let p = c .before .before .before .pre in
+    let s = drop (a .at) (a .text .now) in
+    let long = length-drop (a .at) (a .text .now) in
+    let n = ap length (c .before .copied .ensures) ∙ length-take-le 16 s (omega (arith, long)) in
+    let few = line-most (a .x) (a .m) (p .2) (row-small (a .x) (p .2)) (p .3) .1 in
+    (omega (arith, n, few), p .1, p .2, p .3, p .4, p .5)
 
 is-same-requires : tie.Need-is-same-requires
 is-same-requires c κs = search needs
 
 returns : tie.Need-returns
-returns c = let a = c .before .before .before .before .before .before .before .before .args in let p = c .before .before .before .before .before .before .before .before .pre in let s = drop (a .at) (a .text .now) in let long = length-drop (a .at) (a .text .now) in let few = line-most (a .x) (a .m) (p .2) (row-small (a .x) (p .2)) (p .3) .1 in found-it s 16 (c .before .before .before .before .before .before .copied .ensures) (c .before .before .before .before .put-line .ensures .0) (omega (arith, long)) few (sym (c .before .is-same .ensures) ∙ c .if1 .taken)
+returns c =
+    let a = c .before .before .before .before .before .before .before .before .args in
+    let p = c .before .before .before .before .before .before .before .before .pre in
+    let s = drop (a .at) (a .text .now) in
+    let long = length-drop (a .at) (a .text .now) in
+    let few = line-most (a .x) (a .m) (p .2) (row-small (a .x) (p .2)) (p .3) .1 in
+    found-it s 16 (c .before .before .before .before .before .before .copied .ensures) (c .before .before .before .before .put-line .ensures .0)
+    (omega (arith, long)) few (sym (c .before .is-same .ensures) ∙ c .if1 .taken)
 
 returns-2 : tie.Need-returns-2
-returns-2 c = let a = c .before .before .before .before .before .before .before .before .args in let p = c .before .before .before .before .before .before .before .before .pre in let s = drop (a .at) (a .text .now) in let long = length-drop (a .at) (a .text .now) in let few = line-most (a .x) (a .m) (p .2) (row-small (a .x) (p .2)) (p .3) .1 in found-none s 16 (c .before .before .before .before .before .before .copied .ensures) (c .before .before .before .before .put-line .ensures .0) (omega (arith, long)) few (sym (c .before .is-same .ensures) ∙ c .if1 .left)
+returns-2 c =
+    let a = c .before .before .before .before .before .before .before .before .args in
+    let p = c .before .before .before .before .before .before .before .before .pre in
+    let s = drop (a .at) (a .text .now) in
+    let long = length-drop (a .at) (a .text .now) in
+    let few = line-most (a .x) (a .m) (p .2) (row-small (a .x) (p .2)) (p .3) .1 in
+    found-none s 16 (c .before .before .before .before .before .before .copied .ensures) (c .before .before .before .before .put-line .ensures .0)
+    (omega (arith, long)) few (sym (c .before .is-same .ensures) ∙ c .if1 .left)
 
 pub line-at-spec : {M : Type 1} → statement M
 line-at-spec =

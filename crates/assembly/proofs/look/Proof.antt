@@ -28,7 +28,13 @@ guess-requires-2 : tie.Need-guess-requires-2
 guess-requires-2 c κs = search needs
 
 returns-2 : tie.Need-returns-2
-returns-2 c = let a = c .before .before .before .before .before .args in let s = drop (a .at) (a .text .now) in let long = length-drop (a .at) (a .text .now) in c .guess2 .ensures ∙ ap (λ (l : List ℕ). packed (guessOf l)) (c .before .before .tail .ensures ∙ padded s (omega (arith, long))) ∙ ap packed (guess-padded s)
+returns-2 c =
+    let a = c .before .before .before .before .before .args in
+    let s = drop (a .at) (a .text .now) in
+    let long = length-drop (a .at) (a .text .now) in
+    c .guess2 .ensures
+    ∙ ap (λ (l : List ℕ). packed (guessOf l)) (c .before .before .tail .ensures ∙ padded s (omega (arith, long)))
+    ∙ ap packed (guess-padded s)
 
 pub look-spec : {M : Type 1} → statement M
 look-spec =

@@ -26,7 +26,17 @@ has-second-requires : tie.Need-has-second-requires
 has-second-requires c κs = search needs
 
 put-line-requires : tie.Need-put-line-requires
-put-line-requires c κs = let a = c .before .before .before .before .before .before .before .args in let p = c .before .before .before .before .before .before .before .pre in let b = c .before .before .before .before .shared-slice-known2 .given (a .at) in let n = next-one (a .parcels .now) (a .at) (p .0) (second-is _ _ _ (omega (arith, b)) (c .before .before .before .row-of .ensures .0) (c .before .before .has-second .ensures) ∙ not-true _ (c .before .if1 .taken)) in let e = ap length (n .0) in let room = p .1 in (omega (arith, e, room), c .before .before .before .row-of .ensures .0, omega (arith, b), omega arith, p .2, p .3)
+put-line-requires c κs =
+    let a = c .before .before .before .before .before .before .before .args in
+    let p = c .before .before .before .before .before .before .before .pre in
+    let b = c .before .before .before .before .shared-slice-known2 .given (a .at) in
+    let n =
+    next-one (a .parcels .now) (a .at) (p .0)
+    (second-is _ _ _ (omega (arith, b)) (c .before .before .before .row-of .ensures .0) (c .before .before .has-second .ensures) ∙ not-true _ (c .before .if1 .taken))
+    in
+    let e = ap length (n .0) in
+    let room = p .1 in
+    (omega (arith, e, room), c .before .before .before .row-of .ensures .0, omega (arith, b), omega arith, p .2, p .3)
 
 add-t18 : tie.Need-add-t18
 add-t18 c = search needs
@@ -35,13 +45,32 @@ same-length : tie.Need-same-length
 same-length c = search needs
 
 returns : tie.Need-returns
-returns c = let a = c .before .before .before .before .before .before .before .before .before .before .args in let p = c .before .before .before .before .before .before .before .before .before .before .pre in let b = c .before .before .before .before .before .before .before .shared-slice-known2 .given (a .at) in let n = next-one (a .parcels .now) (a .at) (p .0) (second-is _ _ _ (omega (arith, b)) (c .before .before .before .before .before .before .row-of .ensures .0) (c .before .before .before .before .before .has-second .ensures) ∙ not-true _ (c .before .before .before .before .if1 .taken)) in let k = n .1 in (wrote-as (n .0) (c .before .before .put-line .ensures .0), (omega (arith, k), omega arith, omega arith))
+returns c =
+    let a = c .before .before .before .before .before .before .before .before .before .before .args in
+    let p = c .before .before .before .before .before .before .before .before .before .before .pre in
+    let b = c .before .before .before .before .before .before .before .shared-slice-known2 .given (a .at) in
+    let n =
+    next-one (a .parcels .now) (a .at) (p .0)
+    (second-is _ _ _ (omega (arith, b)) (c .before .before .before .before .before .before .row-of .ensures .0) (c .before .before .before .before .before .has-second .ensures) ∙ not-true _ (c .before .before .before .before .if1 .taken))
+    in
+    let k = n .1 in
+    (wrote-as (n .0) (c .before .before .put-line .ensures .0), (omega (arith, k), omega arith, omega arith))
 
 sub-if2 : tie.Need-sub-if2
 sub-if2 c = search needs
 
 put-data-requires : tie.Need-put-data-requires
-put-data-requires c κs = let a = c .before .before .before .before .before .before .before .before .args in let p = c .before .before .before .before .before .before .before .before .pre in let b = c .before .before .before .before .before .shared-slice-known2 .given (a .at) in let n = next-last (a .parcels .now) (a .at) (p .0) (second-is _ _ _ (omega (arith, b)) (c .before .before .before .before .row-of .ensures .0) (c .before .before .before .has-second .ensures) ∙ not-false _ (c .before .before .if1 .left)) (c .before .if2 .taken) in let e = ap length (n .0) ∙ data-length _ in let room = p .1 in (omega (arith, e, room), omega (arith, b))
+put-data-requires c κs =
+    let a = c .before .before .before .before .before .before .before .before .args in
+    let p = c .before .before .before .before .before .before .before .before .pre in
+    let b = c .before .before .before .before .before .shared-slice-known2 .given (a .at) in
+    let n =
+    next-last (a .parcels .now) (a .at) (p .0)
+    (second-is _ _ _ (omega (arith, b)) (c .before .before .before .before .row-of .ensures .0) (c .before .before .before .has-second .ensures) ∙ not-false _ (c .before .before .if1 .left))
+    (c .before .if2 .taken) in
+    let e = ap length (n .0) ∙ data-length _ in
+    let room = p .1 in
+    (omega (arith, e, room), omega (arith, b))
 
 add-t23 : tie.Need-add-t23
 add-t23 c = search needs
@@ -50,7 +79,16 @@ same-length-2 : tie.Need-same-length-2
 same-length-2 c = search needs
 
 returns-2 : tie.Need-returns-2
-returns-2 c = let a = c .before .before .before .before .before .before .before .before .before .before .before .args in let p = c .before .before .before .before .before .before .before .before .before .before .before .pre in let b = c .before .before .before .before .before .before .before .before .shared-slice-known2 .given (a .at) in let n = next-last (a .parcels .now) (a .at) (p .0) (second-is _ _ _ (omega (arith, b)) (c .before .before .before .before .before .before .before .row-of .ensures .0) (c .before .before .before .before .before .before .has-second .ensures) ∙ not-false _ (c .before .before .before .before .before .if1 .left)) (c .before .before .before .before .if2 .taken) in let k = n .1 in (wrote-as (n .0) (c .before .before .put-data .ensures .0), (omega (arith, k), omega arith, omega arith))
+returns-2 c =
+    let a = c .before .before .before .before .before .before .before .before .before .before .before .args in
+    let p = c .before .before .before .before .before .before .before .before .before .before .before .pre in
+    let b = c .before .before .before .before .before .before .before .before .shared-slice-known2 .given (a .at) in
+    let n =
+    next-last (a .parcels .now) (a .at) (p .0)
+    (second-is _ _ _ (omega (arith, b)) (c .before .before .before .before .before .before .before .row-of .ensures .0) (c .before .before .before .before .before .before .has-second .ensures) ∙ not-false _ (c .before .before .before .before .before .if1 .left))
+    (c .before .before .before .before .if2 .taken) in
+    let k = n .1 in
+    (wrote-as (n .0) (c .before .before .put-data .ensures .0), (omega (arith, k), omega arith, omega arith))
 
 add-m : tie.Need-add-m
 add-m c = search needs
@@ -65,7 +103,18 @@ cast-m : tie.Need-cast-m
 cast-m c = let b = c .shared-slice-known3 .given (c .before .before .before .before .before .before .before .before .args .at + 1) in omega (arith, b)
 
 put-line-requires-2 : tie.Need-put-line-requires-2
-put-line-requires-2 c κs = let a = c .before .before .before .before .before .before .before .before .before .args in let p = c .before .before .before .before .before .before .before .before .before .pre in let b = c .before .before .before .before .before .before .shared-slice-known2 .given (a .at) in let d = c .before .shared-slice-known3 .given (a .at + 1) in let n = next-two (a .parcels .now) (a .at) (p .0) (second-is _ _ _ (omega (arith, b)) (c .before .before .before .before .before .row-of .ensures .0) (c .before .before .before .before .has-second .ensures) ∙ not-false _ (c .before .before .before .if1 .left)) (c .before .before .if2 .left) in let e = ap length (n .0) in let room = p .1 in (omega (arith, e, room), c .before .before .before .before .before .row-of .ensures .0, omega (arith, b), omega (arith, d), p .2, p .3)
+put-line-requires-2 c κs =
+    let a = c .before .before .before .before .before .before .before .before .before .args in
+    let p = c .before .before .before .before .before .before .before .before .before .pre in
+    let b = c .before .before .before .before .before .before .shared-slice-known2 .given (a .at) in
+    let d = c .before .shared-slice-known3 .given (a .at + 1) in
+    let n =
+    next-two (a .parcels .now) (a .at) (p .0)
+    (second-is _ _ _ (omega (arith, b)) (c .before .before .before .before .before .row-of .ensures .0) (c .before .before .before .before .has-second .ensures) ∙ not-false _ (c .before .before .before .if1 .left))
+    (c .before .before .if2 .left) in
+    let e = ap length (n .0) in
+    let room = p .1 in
+    (omega (arith, e, room), c .before .before .before .before .before .row-of .ensures .0, omega (arith, b), omega (arith, d), p .2, p .3)
 
 add-t19 : tie.Need-add-t19
 add-t19 c = search needs
@@ -74,7 +123,16 @@ same-length-3 : tie.Need-same-length-3
 same-length-3 c = search needs
 
 returns-3 : tie.Need-returns-3
-returns-3 c = let a = c .before .before .before .before .before .before .before .before .before .before .before .before .args in let p = c .before .before .before .before .before .before .before .before .before .before .before .before .pre in let b = c .before .before .before .before .before .before .before .before .before .shared-slice-known2 .given (a .at) in let n = next-two (a .parcels .now) (a .at) (p .0) (second-is _ _ _ (omega (arith, b)) (c .before .before .before .before .before .before .before .before .row-of .ensures .0) (c .before .before .before .before .before .before .before .has-second .ensures) ∙ not-false _ (c .before .before .before .before .before .before .if1 .left)) (c .before .before .before .before .before .if2 .left) in let k = n .1 in (wrote-as (n .0) (c .before .before .put-line2 .ensures .0), (omega (arith, k), omega arith, omega arith))
+returns-3 c =
+    let a = c .before .before .before .before .before .before .before .before .before .before .before .before .args in
+    let p = c .before .before .before .before .before .before .before .before .before .before .before .before .pre in
+    let b = c .before .before .before .before .before .before .before .before .before .shared-slice-known2 .given (a .at) in
+    let n =
+    next-two (a .parcels .now) (a .at) (p .0)
+    (second-is _ _ _ (omega (arith, b)) (c .before .before .before .before .before .before .before .before .row-of .ensures .0) (c .before .before .before .before .before .before .before .has-second .ensures) ∙ not-false _ (c .before .before .before .before .before .before .if1 .left))
+    (c .before .before .before .before .before .if2 .left) in
+    let k = n .1 in
+    (wrote-as (n .0) (c .before .before .put-line2 .ensures .0), (omega (arith, k), omega arith, omega arith))
 
 pub put-next-spec : {M : Type 1} → statement M
 put-next-spec =

@@ -19,7 +19,10 @@ found-requires : tie.Need-found-requires
 found-requires c κs = search needs
 
 returns : tie.Need-returns
-returns c = let a = c .before .before .before .before .args in subst (λ (r : Read). ReadsAs (a .text .now) (a .at) (readLine (drop (a .at) (a .text .now))) r) (sym (c .found .ensures)) (heard-here (a .text .now) (a .at) (c .before .before .before .before .pre .0) (c .before .hear .result) (c .before .hear .ensures))
+returns c =
+    let a = c .before .before .before .before .args in
+    subst (λ (r : Read). ReadsAs (a .text .now) (a .at) (readLine (drop (a .at) (a .text .now))) r) (sym (c .found .ensures))
+    (heard-here (a .text .now) (a .at) (c .before .before .before .before .pre .0) (c .before .hear .result) (c .before .hear .ensures))
 
 tail-requires : tie.Need-tail-requires
 tail-requires c κs = search needs
@@ -34,7 +37,10 @@ found-requires-2 : tie.Need-found-requires-2
 found-requires-2 c κs = search needs
 
 returns-2 : tie.Need-returns-2
-returns-2 c = let a = c .before .before .before .before .before .before .args in subst (λ (r : Read). ReadsAs (a .text .now) (a .at) (readLine (drop (a .at) (a .text .now))) r) (sym (c .found2 .ensures)) (heard-padded (a .text .now) (a .at) (c .before .before .before .before .before .before .pre .0) (c .before .hear2 .result) (c .before .before .before .tail .result) (c .before .before .before .tail .ensures) (omega arith) (c .before .hear2 .ensures))
+returns-2 c =
+    let a = c .before .before .before .before .before .before .args in
+    subst (λ (r : Read). ReadsAs (a .text .now) (a .at) (readLine (drop (a .at) (a .text .now))) r) (sym (c .found2 .ensures))
+    (heard-padded (a .text .now) (a .at) (c .before .before .before .before .before .before .pre .0) (c .before .hear2 .result) (c .before .before .before .tail .result) (c .before .before .before .tail .ensures) (omega arith) (c .before .hear2 .ensures))
 
 pub read-line-spec : {M : Type 1} → statement M
 read-line-spec =

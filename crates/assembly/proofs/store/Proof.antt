@@ -22,22 +22,56 @@ look-requires : tie.Need-look-requires Inv-loop μ-loop
 look-requires c κs = (c .loop-test .taken, c .before .before .before .before .pre .1)
 
 put-parcels-requires : tie.Need-put-parcels-requires Inv-loop μ-loop
-put-parcels-requires c κs = let L = c .before .before .before .loop .inv in let s = store-next _ _ _ _ _ _ (L .2) (c .before .before .loop-test .taken) (c .before .before .before .before .before .before .pre .0) (c .before .look .ensures) in let fits = s .fits in let n = L .3 in let same = L .5 in omega (arith, fits, n, same)
+put-parcels-requires c κs =
+    let L = c .before .before .before .loop .inv in
+    let s = store-next _ _ _ _ _ _ (L .2) (c .before .before .loop-test .taken) (c .before .before .before .before .before .before .pre .0) (c .before .look .ensures) in
+    let fits = s .fits in
+    let n = L .3 in
+    let same = L .5 in
+    omega (arith, fits, n, same)
 
 add-at : tie.Need-add-at Inv-loop μ-loop
-add-at c = let L = c .before .before .before .before .before .before .loop .inv in let s = store-next _ _ _ _ _ _ (L .2) (c .before .before .before .before .before .loop-test .taken) (c .before .before .before .before .before .before .before .before .before .pre .0) (c .before .before .before .before .look .ensures) in let l = s .next .inside in omega (arith, l)
+add-at c =
+    let L = c .before .before .before .before .before .before .loop .inv in
+    let s =
+    store-next _ _ _ _ _ _ (L .2) (c .before .before .before .before .before .loop-test .taken)
+    (c .before .before .before .before .before .before .before .before .before .pre .0) (c .before .before .before .before .look .ensures) in
+    let l = s .next .inside in
+    omega (arith, l)
 
 loop-less : tie.Need-loop-less Inv-loop μ-loop
-loop-less c = let L = c .before .before .before .before .before .before .loop .inv in let s = store-next _ _ _ _ _ _ (L .2) (c .before .before .before .before .before .loop-test .taken) (c .before .before .before .before .before .before .before .before .before .pre .0) (c .before .before .before .before .look .ensures) in let l = s .next .inside in let on = s .on in omega (arith, l, on)
+loop-less c =
+    let L = c .before .before .before .before .before .before .loop .inv in
+    let s =
+    store-next _ _ _ _ _ _ (L .2) (c .before .before .before .before .before .loop-test .taken)
+    (c .before .before .before .before .before .before .before .before .before .pre .0) (c .before .before .before .before .look .ensures) in
+    let l = s .next .inside in
+    let on = s .on in
+    omega (arith, l, on)
 
 loop-again : tie.Need-loop-again Inv-loop μ-loop
-loop-again c = let L = c .before .before .before .before .before .before .loop .inv in let s = store-next _ _ _ _ _ _ (L .2) (c .before .before .before .before .before .loop-test .taken) (c .before .before .before .before .before .before .before .before .before .pre .0) (c .before .before .before .before .look .ensures) in let put = c .before .before .put-parcels .ensures in let ps = unpacked (c .before .before .before .before .look .result) in (L .0 + 1, L .1 ++ ps, s .next, length-append (L .1) ps ∙ ap (λ (j : ℕ). j + length ps) (L .3) ∙ sym (put .1), sets-more _ _ _ (L .1) ps _ (L .4) (L .3) (put .0), c .before .before .put-parcels .kept .0 ∙ L .5)
+loop-again c =
+    let L = c .before .before .before .before .before .before .loop .inv in
+    let s =
+    store-next _ _ _ _ _ _ (L .2) (c .before .before .before .before .before .loop-test .taken)
+    (c .before .before .before .before .before .before .before .before .before .pre .0) (c .before .before .before .before .look .ensures) in
+    let put = c .before .before .put-parcels .ensures in
+    let ps = unpacked (c .before .before .before .before .look .result) in (
+      L .0 + 1,
+      L .1 ++ ps,
+      s .next,
+      length-append (L .1) ps ∙ ap (λ (j : ℕ). j + length ps) (L .3) ∙ sym (put .1),
+      sets-more _ _ _ (L .1) ps _ (L .4) (L .3) (put .0),
+      c .before .before .put-parcels .kept .0 ∙ L .5,
+    )
 
 same-length : tie.Need-same-length Inv-loop μ-loop
 same-length c = c .before .loop .inv .5
 
 returns : tie.Need-returns Inv-loop μ-loop
-returns c = let L = c .before .loop .inv in L .4 ∙ stored-all _ _ (L .1) (passed-all _ _ _ _ (L .2) (omega arith)) (c .before .before .before .before .pre .0)
+returns c =
+    let L = c .before .loop .inv in
+    L .4 ∙ stored-all _ _ (L .1) (passed-all _ _ _ _ (L .2) (omega arith)) (c .before .before .before .before .pre .0)
 
 pub store-spec : {M : Type 1} → statement M
 store-spec =

@@ -36,10 +36,26 @@ loop-less : tie.Need-loop-less Inv-loop μ-loop
 loop-less c = omega arith
 
 loop-again : tie.Need-loop-again Inv-loop μ-loop
-loop-again c = let a = c .before .before .before .args in let s = drop (a .at) (a .text .now) in let long = length-drop (a .at) (a .text .now) in let byte : getD s (c .before .before .loop .i) 0 ≡ getD (a .text .now) (a .at + c .before .before .loop .i) 0 = getD-drop (a .at) (a .text .now) (c .before .before .loop .i) 0 in (length-set (c .before .before .loop .rest) (c .before .before .loop .i) _ ∙ c .before .before .loop .inv .0, omega arith, c .before .before .loop .inv .2 ∙ copy-next s (c .before .before .loop .rest) (c .before .before .loop .i) (omega (arith, long)) ∙ ap (λ (b : ℕ). sets (set (c .before .before .loop .rest) (c .before .before .loop .i) b) (c .before .before .loop .i + 1) (drop (c .before .before .loop .i + 1) s)) byte)
+loop-again c =
+    let a = c .before .before .before .args in
+    let s = drop (a .at) (a .text .now) in
+    let long = length-drop (a .at) (a .text .now) in
+    let byte : getD s (c .before .before .loop .i) 0 ≡ getD (a .text .now) (a .at + c .before .before .loop .i) 0 = getD-drop (a .at) (a .text .now) (c .before .before .loop .i) 0 in (
+      length-set (c .before .before .loop .rest) (c .before .before .loop .i) _ ∙ c .before .before .loop .inv .0,
+      omega arith,
+      c .before .before .loop .inv .2
+          ∙ copy-next s (c .before .before .loop .rest) (c .before .before .loop .i) (omega (arith, long))
+          ∙ ap
+          (λ (b : ℕ). sets (set (c .before .before .loop .rest) (c .before .before .loop .i) b) (c .before .before .loop .i + 1) (drop (c .before .before .loop .i + 1) s))
+          byte,
+    )
 
 returns : tie.Need-returns Inv-loop μ-loop
-returns c = let a = c .before .before .args in let s = drop (a .at) (a .text .now) in let long = length-drop (a .at) (a .text .now) in sym (copy-done s (c .before .loop .rest) (c .before .loop .i) (omega (arith, long))) ∙ sym (c .before .loop .inv .2)
+returns c =
+    let a = c .before .before .args in
+    let s = drop (a .at) (a .text .now) in
+    let long = length-drop (a .at) (a .text .now) in
+    sym (copy-done s (c .before .loop .rest) (c .before .loop .i) (omega (arith, long))) ∙ sym (c .before .loop .inv .2)
 
 pub tail-spec : {M : Type 1} → statement M
 tail-spec =
