@@ -12,11 +12,10 @@ use Rattle.text.specs.Digits.{placesOf, widthOf, shown}
 use Rattle.text.proofs.Writing.{digits-length}
 use Rattle.spelling.specs.declared.Operand.{Operand}
 use Rattle.spelling.specs.declared.Operand.the-variants.{Register, Constant, Indexed}
-use Rattle.spelling.specs.declared.Guess.{Guess}
 use Rattle.spelling.specs.Words.{operandOf, operandText, wordText, textOf}
 use Rattle.spelling.specs.Spelling.{wordsOf, second}
 use Rattle.spelling.specs.Listing.{dataLine, lineWith, lineOf}
-use Rattle.spelling.specs.Candidate.{guessOf}
+use Rattle.spelling.specs.Candidate.{Guess, guessOf}
 use Rattle.spelling.proofs.Lines.{data-length}
 use Rattle.spelling.proofs.Texts.{begins-with}
 use Rattle.spelling.specs.Assembling.{begins, Line, Good, Bad, lineIs, ifLast, lineBy, readLine, Reading, All, Wrong, before, onLine, readFrom, readOf}
@@ -77,15 +76,15 @@ last-less s Bad h = tt
 
 line-less : (s : List ℕ) → Less s (readLine s)
 unfolding readLine lineBy
-line-less s = go (guessOf s) (second (guessOf s .first)) (guessOf s .as_data)
+line-less s = go (guessOf s) (second (guessOf s .first)) (guessOf s .two)
   where
-    go : (g : Guess) (two single : Bool)
-        → Less s (pick two
-        (pick single (ifLast (lineIs s (dataLine (g .first)) (g .first ∷ []))) (lineIs s (lineOf (g .first) (g .second)) (g .first ∷ g .second ∷ [])))
+    go : (g : Guess) (second two : Bool)
+        → Less s (pick second
+        (pick two (lineIs s (lineOf (g .first) (g .second)) (g .first ∷ g .second ∷ [])) (ifLast (lineIs s (dataLine (g .first)) (g .first ∷ []))))
         (lineIs s (lineOf (g .first) 0) (g .first ∷ [])))
-    go g true true = last-less s (lineIs s (dataLine (g .first)) (g .first ∷ [])) (is-less s (dataLine (g .first)) (g .first ∷ []) (omega (arith, data-length (g .first))))
-    go g true false = is-less s (lineOf (g .first) (g .second)) (g .first ∷ g .second ∷ []) (line-some (g .first) (g .second))
-    go g false single = is-less s (lineOf (g .first) 0) (g .first ∷ []) (omega (arith, line-some (g .first) 0))
+    go g true true = is-less s (lineOf (g .first) (g .second)) (g .first ∷ g .second ∷ []) (line-some (g .first) (g .second))
+    go g true false = last-less s (lineIs s (dataLine (g .first)) (g .first ∷ [])) (is-less s (dataLine (g .first)) (g .first ∷ []) (omega (arith, data-length (g .first))))
+    go g false two = is-less s (lineOf (g .first) 0) (g .first ∷ []) (omega (arith, line-some (g .first) 0))
 
 -- and so with all lines
 abbrev Most : List ℕ → Reading → Type 0

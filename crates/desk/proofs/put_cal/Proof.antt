@@ -2,7 +2,7 @@ use mathlib.Core.Path.{sym}
 use native.Mathlib.Omega.{arith}
 use lib.Seq.{length-take-le}
 use Rattle.spelling.proofs.Lines.{line-most}
-use Rattle.line.proofs.Laws.{row-small}
+use Rattle.spelling.proofs.Table.{row-small}
 use Rattle.desk.proofs.Columns.{copied}
 use borrow.Author.Needs.{needs}
 use Rattle.desk.proofs.put_cal.Statement.{statement}
