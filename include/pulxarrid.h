@@ -4,7 +4,7 @@
  * Link with libexport.a. It calls memcpy and memset, allocates nothing, keeps
  * nothing between calls and may be called from several threads at once, each
  * with its own processors and memory. A pair run takes 24 KB of stack, a run or
- * a step 12 KB, a text assembled or parcels listed at most 7 KB.
+ * a step 12 KB, a text assembled or parcels listed at most 6 KB.
  *
  * The caller lends every array. No pointer may be null, not even with a length
  * of 0, and no two arrays of one call may overlap. Whatever numbers they hold,
