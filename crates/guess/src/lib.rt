@@ -133,7 +133,7 @@ fn byte(text: &[u8], at: usize, p: usize) -> u8
     text[at + p]
 }
 
-// A, A: the sum, the difference, the product.
+// Ai and an A register: a sum, a difference or a product.
 fn line_aa(text: &[u8], at: usize) -> usize
     requires { ⌜ at + 32 ≤ length (now text) ⌝ }
     ensures { λ r. ⌜ (r ≡ told lineAA (bytesOf (drop at (now (text .entry))))) × (r < 108) ⌝ }
@@ -145,7 +145,7 @@ fn line_aa(text: &[u8], at: usize) -> usize
     }
 }
 
-// Lines that begin with A, a digit and a blank; and so on by the first signs.
+// Ai: by what stands behind the blank.
 fn line_a(text: &[u8], at: usize) -> usize
     requires { ⌜ at + 32 ≤ length (now text) ⌝ }
     ensures { λ r. ⌜ (r ≡ told lineA (bytesOf (drop at (now (text .entry))))) × (r < 108) ⌝ }
@@ -162,7 +162,7 @@ fn line_a(text: &[u8], at: usize) -> usize
     }
 }
 
-// S, S.
+// Si and an S register: by the sign after it.
 fn line_ss(text: &[u8], at: usize) -> usize
     requires { ⌜ at + 32 ≤ length (now text) ⌝ }
     ensures { λ r. ⌜ (r ≡ told lineSS (bytesOf (drop at (now (text .entry))))) × (r < 108) ⌝ }
@@ -178,7 +178,7 @@ fn line_ss(text: &[u8], at: usize) -> usize
     }
 }
 
-// S.
+// Si: by what stands behind the blank.
 fn line_s(text: &[u8], at: usize) -> usize
     requires { ⌜ at + 32 ≤ length (now text) ⌝ }
     ensures { λ r. ⌜ (r ≡ told lineS (bytesOf (drop at (now (text .entry))))) × (r < 108) ⌝ }
@@ -196,7 +196,7 @@ fn line_s(text: &[u8], at: usize) -> usize
     }
 }
 
-// V, S.
+// Vi and an S register: by the sign after it.
 fn line_vs(text: &[u8], at: usize) -> usize
     requires { ⌜ at + 32 ≤ length (now text) ⌝ }
     ensures { λ r. ⌜ (r ≡ told lineVS (bytesOf (drop at (now (text .entry))))) × (r < 108) ⌝ }
@@ -210,7 +210,7 @@ fn line_vs(text: &[u8], at: usize) -> usize
     }
 }
 
-// V, V.
+// Vi and a V register: by the sign after it.
 fn line_vv(text: &[u8], at: usize) -> usize
     requires { ⌜ at + 32 ≤ length (now text) ⌝ }
     ensures { λ r. ⌜ (r ≡ told lineVV (bytesOf (drop at (now (text .entry))))) × (r < 108) ⌝ }
@@ -227,7 +227,7 @@ fn line_vv(text: &[u8], at: usize) -> usize
     }
 }
 
-// VM.
+// VM: from an S register, or by the test of a V register.
 fn line_vm(text: &[u8], at: usize) -> usize
     requires { ⌜ at + 32 ≤ length (now text) ⌝ }
     ensures { λ r. ⌜ (r ≡ told lineVM (bytesOf (drop at (now (text .entry))))) × (r < 108) ⌝ }
@@ -243,7 +243,7 @@ fn line_vm(text: &[u8], at: usize) -> usize
     }
 }
 
-// V and a digit.
+// Vi: by what stands behind the blank, or a comma if an element is stored.
 fn line_vi(text: &[u8], at: usize) -> usize
     requires { ⌜ at + 32 ≤ length (now text) ⌝ }
     ensures { λ r. ⌜ (r ≡ told lineVi (bytesOf (drop at (now (text .entry))))) × (r < 108) ⌝ }
@@ -258,7 +258,7 @@ fn line_vi(text: &[u8], at: usize) -> usize
     }
 }
 
-// V.
+// VL, VM, or Vi.
 fn line_v(text: &[u8], at: usize) -> usize
     requires { ⌜ at + 32 ≤ length (now text) ⌝ }
     ensures { λ r. ⌜ (r ≡ told lineV (bytesOf (drop at (now (text .entry))))) × (r < 108) ⌝ }
@@ -270,7 +270,7 @@ fn line_v(text: &[u8], at: usize) -> usize
     }
 }
 
-// E.
+// ERR, ERI, ECI, EBM, EX.
 fn line_e(text: &[u8], at: usize) -> usize
     requires { ⌜ at + 32 ≤ length (now text) ⌝ }
     ensures { λ r. ⌜ (r ≡ told lineE (bytesOf (drop at (now (text .entry))))) × (r < 108) ⌝ }
@@ -283,7 +283,7 @@ fn line_e(text: &[u8], at: usize) -> usize
     }
 }
 
-// C.
+// CA, CL, CLN, CI, CCI, CMR.
 fn line_c(text: &[u8], at: usize) -> usize
     requires { ⌜ at + 32 ≤ length (now text) ⌝ }
     ensures { λ r. ⌜ (r ≡ told lineC (bytesOf (drop at (now (text .entry))))) × (r < 108) ⌝ }
@@ -310,7 +310,7 @@ fn jump(text: &[u8], at: usize, first: usize) -> usize
     }
 }
 
-// J.
+// Branches: on A0, on S0, always.
 fn line_j(text: &[u8], at: usize) -> usize
     requires { ⌜ at + 32 ≤ length (now text) ⌝ }
     ensures { λ r. ⌜ (r ≡ told lineJ (bytesOf (drop at (now (text .entry))))) × (r < 108) ⌝ }
@@ -322,7 +322,7 @@ fn line_j(text: &[u8], at: usize) -> usize
     }
 }
 
-// D.
+// DCI, DRI, DBM.
 fn line_d(text: &[u8], at: usize) -> usize
     requires { ⌜ at + 32 ≤ length (now text) ⌝ }
     ensures { λ r. ⌜ (r ≡ told lineD (bytesOf (drop at (now (text .entry))))) × (r < 108) ⌝ }
@@ -334,7 +334,7 @@ fn line_d(text: &[u8], at: usize) -> usize
     }
 }
 
-// A comma.
+// ,A0: a vector or a block stored.
 fn line_comma(text: &[u8], at: usize) -> usize
     requires { ⌜ at + 32 ≤ length (now text) ⌝ }
     ensures { λ r. ⌜ (r ≡ told lineComma (bytesOf (drop at (now (text .entry))))) × (r < 108) ⌝ }
@@ -345,7 +345,7 @@ fn line_comma(text: &[u8], at: usize) -> usize
     if byte(text, at, 4) == b'B' { 50 } else { 52 }
 }
 
-// Any sign; what begins with none of these is taken for data.
+// Lines that begin with a sign, by it; what begins with none of these is taken for data.
 fn line_sign(text: &[u8], at: usize) -> usize
     requires { ⌜ at + 32 ≤ length (now text) ⌝ }
     ensures { λ r. ⌜ (r ≡ told lineSign (bytesOf (drop at (now (text .entry))))) × (r < 108) ⌝ }
