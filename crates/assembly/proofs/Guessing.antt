@@ -13,11 +13,9 @@ use Rattle.machine.specs.State.{bit}
 use Rattle.machine.specs.Word.{pick}
 use Rattle.spelling.specs.Spelling.{second}
 use Rattle.spelling.specs.Listing.{dataLine, lineOf, listed}
-use Rattle.spelling.specs.Rows.{rowOf}
 use Rattle.spelling.specs.Candidate.{Guess, one, guessBy, guessOf, packed}
 use Rattle.spelling.specs.Assembling.{begins, Good, Bad, lineIs, ifLast, lineBy, parcelsOf, readLine}
 use Rattle.spelling.proofs.Lines.{data-length, line-most}
-use Rattle.spelling.proofs.Table.{row-small}
 use Rattle.spelling.proofs.Texts.{begins-short}
 use Rattle.readback.proofs.Guessed.{first-below, second-below}
 use Rattle.assembly.proofs.Same.{sets-front}
@@ -77,13 +75,10 @@ line-by s g = go (second (g .first)) (g .two)
 line-least : (g : Guess) → g .first < 65536 → g .second < 65536 → 2 ≤ length (lineFor g)
 line-least g h l = go (second (g .first)) (g .two)
   where
-    low : rowOf (g .first) < 107
-    low = row-small (g .first) h
-
     go : (a b : Bool) → 2 ≤ length (pick a (pick b (lineOf (g .first) (g .second)) (dataLine (g .first))) (lineOf (g .first) 0))
-    go true true = line-most (g .first) (g .second) h low l .0
+    go true true = line-most (g .first) (g .second) h l .0
     go true false = let n = data-length (g .first) in omega (arith, n)
-    go false b = line-most (g .first) 0 h low (omega arith) .0
+    go false b = line-most (g .first) 0 h (omega arith) .0
 
 parcels-most : (g : Guess) → length (parcelsFor g) ≤ 2
 parcels-most g = go (second (g .first)) (g .two)

@@ -17,11 +17,11 @@ use Rattle.spelling.specs.Spelling.{second}
 use Rattle.spelling.specs.Listing.{dataLine, lineOf, listOf, firstLine, parcelsIn, listed, roomListed}
 use Rattle.spelling.specs.Rows.{rowOf, secondRow}
 use Rattle.spelling.specs.Candidate.{guessOf, packed}
-use Rattle.spelling.specs.Assembling.{Line, Good, Bad, parcelsOf, Reading, All, Wrong, before, readLine, readFrom, readOf, roomAfter, assembled, roomAssembled}
+use Rattle.spelling.specs.Assembling.{Line, Good, Bad, Reading, All, Wrong, before, readLine, readFrom, readOf, roomAfter, assembled, roomAssembled}
 use Rattle.spelling.specs.declared.Assembled.the-variants.{Parcels, BadLine, Overfull}
 use Rattle.spelling.specs.declared.Listed.the-variants.{Bytes, TooLong}
 use Rattle.spelling.proofs.Lines.{data-length, line-most}
-use Rattle.spelling.proofs.Table.{second-of-row, row-small}
+use Rattle.spelling.proofs.Table.{second-of-row}
 use Rattle.spelling.proofs.Texts.{ahead, ahead-none, ahead-more, read-none, read-bad, read-good, list-next, Narrow}
 use Rattle.readback.proofs.Guessed.{first-below, second-below}
 use Rattle.readback.proofs.Good.{guess-read}
@@ -199,9 +199,6 @@ first-most ps at n h = rw (here ps at h) (go (drop (at + 1) ps) (λ i. rest i))
     x : ℕ
     x = getD ps at 0
 
-    low : rowOf x < 107
-    low = row-small x (n at)
-
     rest : (i : ℕ) → getD (drop (at + 1) ps) i 0 < 65536
     rest i = rw (getD-drop (at + 1) ps i 0) (n (at + 1 + i))
 
@@ -210,12 +207,12 @@ first-most ps at n h = rw (here ps at h) (go (drop (at + 1) ps) (λ i. rest i))
       where
         one : (b : Bool) → length (pick b (dataLine x) (lineOf x 0)) ≤ 16
         one true = let k = data-length x in omega (arith, k)
-        one false = line-most x 0 (n at) low (omega arith) .1
+        one false = line-most x 0 (n at) (omega arith) .1
     go (m ∷ l) q = two (second x)
       where
         two : (b : Bool) → length (pick b (lineOf x m) (lineOf x 0)) ≤ 16
-        two true = line-most x m (n at) low (q 0) .1
-        two false = line-most x 0 (n at) low (omega arith) .1
+        two true = line-most x m (n at) (q 0) .1
+        two false = line-most x 0 (n at) (omega arith) .1
 
 pub no-lines : (ps : List ℕ) (at : ℕ) → length ps ≤ at → listOf (drop at ps) ≡ []
 unfolding listOf

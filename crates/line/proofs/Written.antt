@@ -178,7 +178,7 @@ module _ {line₀ : List ℕ} {start : ℕ} {l : List ℕ} {ins : Instruction} {
 -- the instruction of a row that has a spelling, made from its parcels, spells their line
 module _ (x m row : ℕ) (forms : List ℕ) (ins : Instruction) (h : x < 65536) (r : row ≡ rowOf x) (f : forms ≡ formTable) (i : ins ≡ instructionOf row x m) where
   pub line-spelled : (row ≡ 0 → ⊥) → lineOf x m ≡ spelledOf forms ins
-  line-spelled n = rw (f, i, r) (line-of-some x m h (row-small x h) (ne-eqb (rowOf x) 0 (λ e. n (r ∙ e))))
+  line-spelled n = rw (f, i, r) (line-of-some x m h (ne-eqb (rowOf x) 0 (λ e. n (r ∙ e))))
 
   pub line-ready : {line : List ℕ} {at : ℕ} → (row ≡ 0 → ⊥) → m < 65536 → at + length (lineOf x m) ≤ length line → Ready line at forms ins
   line-ready n l room =

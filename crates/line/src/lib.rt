@@ -1,13 +1,13 @@
 // The line of an instruction: its row in the table of forms, its operands, its text.
 ghost use mathlib.Core.Path.{_≡_};
 ghost use mathlib.Core.List.{_++_};
-ghost use Prim.Native.Nat.{ℕ, _+_, _%_, _≤_, _<_};
+ghost use Prim.Native.Nat.{_+_, _%_, _≤_, _<_};
 ghost use lib.ListN.{length, getD, drop};
 ghost use Rattle.text.specs.Digits.{glyphOf, digits, shown};
 ghost use Rattle.text.specs.Report.{Wrote};
-ghost use Rattle.spelling.specs.Words.{fieldsOf, operandOf, operandText};
+ghost use Rattle.spelling.specs.Words.{fieldsOf, operandBy, operandText};
 ghost use Rattle.spelling.specs.Listing.{dataLine, lineOf};
-ghost use Rattle.spelling.specs.Rows.{within, row0014, row001, row002, row023, plainRows, rowBy, rowOf, secondRow, codeAt, formTable, operandTable, instructionOf, signsOf, afterSigns, Ends, spelledOf, Small, Ready};
+ghost use Rattle.spelling.specs.Rows.{within, row0014, row001, row002, row023, plainRows, rowBy, rowOf, secondRow, codeAt, formTable, operandTable, instructionBy, signsOf, afterSigns, Ends, spelledOf, Small, Ready};
 ghost use Rattle.spelling.specs.declared.Operand.the-variants.{Register, Indexed};
 use spelling::Instruction;
 use spelling::Operand;
@@ -493,7 +493,7 @@ fn fields(x: u64, m: u64) -> [u64; 8]
 // The operand of a code. Registers, the most common, come first.
 fn operand(code: u64, fields: &[u64; 8]) -> Operand
     requires { ⌜ code < 1024 ⌝ }
-    ensures { λ r. ⌜ ((x m : ℕ) → now (fields .entry) ≡ fieldsOf x m → r ≡ operandOf code x m) ⌝ }
+    ensures { λ r. ⌜ r ≡ operandBy code (now (fields .entry)) ⌝ }
 {
     let letter = code / 8;
     let f = code % 8;
@@ -541,7 +541,7 @@ fn code_at(operands: &[u16; 428], row: usize, t: usize) -> u64
 // The instruction of a row, from the fields of its parcels.
 fn decode(operands: &[u16; 428], row: usize, fields: &[u64; 8]) -> Instruction
     requires { ⌜ (row < 107) × (now operands ≡ operandTable) ⌝ }
-    ensures { λ r. ⌜ ((x m : ℕ) → now (fields .entry) ≡ fieldsOf x m → r ≡ instructionOf row x m) ⌝ }
+    ensures { λ r. ⌜ r ≡ instructionBy row (now (fields .entry)) ⌝ }
 {
     let a = code_at(operands, row, 0);
     if a == 0 {

@@ -23,7 +23,8 @@ unfolding digitOf glyphOf
 one-sign b h = go (within 48 58 b) (within 65 71 b) (within 97 103 b) refl refl refl h
   where
     go : (t u v : Bool) → within 48 58 b ≡ t → within 65 71 b ≡ u → within 97 103 b ≡ v → pick t (b - 48) (pick u (b - 55) (pick v (b - 87) 16)) < 8
-        → pick (ltb (pick t (b - 48) (pick u (b - 55) (pick v (b - 87) 16))) 10) (48 + pick t (b - 48) (pick u (b - 55) (pick v (b - 87) 16))) (55 + pick t (b - 48) (pick u (b - 55) (pick v (b - 87) 16))) ≡ b
+        → pick (ltb (pick t (b - 48) (pick u (b - 55) (pick v (b - 87) 16))) 10) (48 + pick t (b - 48) (pick u (b - 55) (pick v (b - 87) 16)))
+        (55 + pick t (b - 48) (pick u (b - 55) (pick v (b - 87) 16))) ≡ b
     go true u v e f g h = let r = range 48 58 b e in rw (lt-ltb (b - 48) 10 (omega arith)) (omega (arith, r))
     go false true v e f g h = let r = range 65 71 b f in absurd (omega (arith, r))
     go false false true e f g h = let r = range 97 103 b g in absurd (omega (arith, r))

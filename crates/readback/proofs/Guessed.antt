@@ -12,7 +12,7 @@ use Rattle.spelling.specs.Words.{signs, textOf}
 use Rattle.spelling.specs.Spelling.{second}
 use Rattle.spelling.specs.Listing.{dataLine, lineOf}
 use Rattle.spelling.specs.Rows.{rowWords, rowOf, secondRow}
-use Rattle.spelling.specs.Candidate.{bytesOf, Numeral, numberAt, told, rowSeen, planOf, Guess, one, withNumber, guessWith, guessBy, guessOf}
+use Rattle.spelling.specs.Candidate.{bytesOf, Numeral, numberAt, told, rowSeen, planOf, Guess, withNumber, guessWith, guessBy, guessOf}
 use Rattle.spelling.proofs.Table.{second-of-row, row-small}
 use Rattle.spelling.proofs.Lines.{data-length, line-of-none, line-of-some, spelled-row}
 use Rattle.readback.proofs.Numbers.{number-read}
@@ -59,7 +59,7 @@ module _ (x m : ℕ) (x-below : x < 65536) (m-below : m < 65536) (rest : List �
   line-text : lineOf x m ≡ textOf (simple (rowWords (rowOf x))) x m
   line-text =
       let low = row-small x x-below in
-      line-of-some x m x-below low spelled ∙ spelled-row (rowOf x) x m low ∙ sym (simple-text x m (rowWords (rowOf x)) (row-is (rowOf x) low spelled .fits))
+      line-of-some x m x-below spelled ∙ spelled-row (rowOf x) x m low ∙ sym (simple-text x m (rowWords (rowOf x)) (row-is (rowOf x) low spelled .fits))
 
   spelled-right : Right (guessOf (lineOf x m ++ rest)) x m (second x) (length (lineOf x m))
   unfolding guessOf guessBy
@@ -100,7 +100,7 @@ module _ (x m : ℕ) (x-below : x < 65536) (m-below : m < 65536) (rest : List �
       go : (b : Bool) → eqb (rowOf x) 0 ≡ b → Right (guessOf (lineOf x m ++ rest)) x m (second x) (length (lineOf x m))
       go true e =
           let none : second x ≡ false = second-of-row x x-below ∙ ap secondRow (eqb-true (rowOf x) 0 e) in
-          rw (line-of-none x m x-below (row-small x x-below) e, none) (data-right x x-below rest m)
+          rw (line-of-none x m x-below e, none) (data-right x x-below rest m)
       go false e = spelled-right x m x-below m-below rest e
 
   pub line-first : guessOf (lineOf x m ++ rest) .first ≡ x

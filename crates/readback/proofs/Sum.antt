@@ -10,7 +10,7 @@ use borrow.Author.Tests.{eqb-true, ltb-true, leb-true, lt-ltb, le-ltb}
 use Rattle.machine.specs.Word.{pick}
 use Rattle.machine.specs.Parcel.{hOf, iOf, jOf, kOf}
 use Rattle.spelling.specs.Words.{fieldOf, textOf}
-use Rattle.spelling.specs.Candidate.{bytesOf, numberAt, Guess, one, both, digitAt, withNumber, guessWith}
+use Rattle.spelling.specs.Candidate.{bytesOf, numberAt, Guess, one, digitAt, withNumber, guessWith}
 use Rattle.spelling.proofs.Entries.{both-hold}
 use Rattle.spelling.proofs.Table.{same, same-eq}
 use Rattle.readback.proofs.Simple.{field-digit}

@@ -10,7 +10,6 @@ use lib.Dec.{eqb·suc-zero}
 use Rattle.spelling.specs.Spelling.{second}
 use Rattle.spelling.specs.Listing.{dataLine, lineOf, listOf}
 use Rattle.spelling.specs.Assembling.{lineLength, Line, Good, Bad, readLine, Reading, All, Wrong, before, onLine, readFrom}
-use Rattle.spelling.proofs.Table.{row-small}
 use Rattle.spelling.proofs.Texts.{data-ends, line-ends}
 use Rattle.readback.proofs.Stands.{Below, Stands, one, two, last, Lines, none, more, Broken}
 use Rattle.readback.proofs.Good.{good-stands, stands-good, bad-stands}
@@ -34,8 +33,8 @@ ends : (s line rest : List ℕ) → s ≡ line ++ rest → suc (lineLength (line
 ends s line rest e newline = rw (e, length-append line rest) (omega arith)
 
 pub stands-ends : {s ps rest : List ℕ} → Stands s ps rest → lineLength s + 1 + length rest ≡ length s
-stands-ends {s} {ps} {rest} (one {x = x} below is e) = ends s (lineOf x 0) rest e (line-ends x 0 rest below (row-small x below))
-stands-ends {s} {ps} {rest} (two {x = x} {m = m} below m-below is e) = ends s (lineOf x m) rest e (line-ends x m rest below (row-small x below))
+stands-ends {s} {ps} {rest} (one {x = x} below is e) = ends s (lineOf x 0) rest e (line-ends x 0 rest below)
+stands-ends {s} {ps} {rest} (two {x = x} {m = m} below m-below is e) = ends s (lineOf x m) rest e (line-ends x m rest below)
 stands-ends {s} (last {x = x} below is e) = ends s (dataLine x) [] (e ∙ sym (append-nil (dataLine x))) (data-ends x [])
 
 stands-longer : {s ps rest : List ℕ} → Stands s ps rest → length rest < length s

@@ -12,10 +12,10 @@ use Rattle.machine.specs.Codes.{codeOf, code001, code002}
 use Rattle.text.specs.Digits.{digits, shown}
 use Rattle.text.proofs.Writing.{digits-length}
 use Rattle.text.proofs.Length.{shown-most}
-use Rattle.spelling.specs.Words.{fieldOf, operandOf, operandText, wordText, textOf, signs}
+use Rattle.spelling.specs.Words.{fieldOf, fieldsOf, operandBy, operandOf, operandText, wordText, textOf, signs}
 use Rattle.spelling.specs.Spelling.{passing, spelling, wordsOf}
 use Rattle.spelling.specs.Listing.{dataLine, lineWith, lineOf}
-use Rattle.spelling.specs.Rows.{rowWords, rowOf, mark, operandsIn, codeAt, formTable, withCodes, instructionOf, rowIn, operandsHeld}
+use Rattle.spelling.specs.Rows.{rowWords, rowOf, mark, operandsIn, codeAt, formTable, withCodes, instructionBy, instructionOf, rowIn, operandsHeld}
 use Rattle.spelling.specs.Rows.{signsOf, afterSigns, Ends, partsOf, filled, spelledOf, Small, Fills, Spells}
 use Rattle.spelling.specs.declared.Operand.{Operand}
 use Rattle.spelling.specs.declared.Operand.the-variants.{Register, Constant, Indexed}
@@ -23,7 +23,7 @@ use Rattle.spelling.specs.declared.Instruction.{Instruction}
 use Rattle.spelling.specs.declared.Instruction.the-variants.{Bare, OfOne, OfTwo, OfThree, OfFour}
 use Rattle.spelling.proofs.Entries.{both-hold, every, every-at}
 use Rattle.spelling.proofs.Forms.{form-bytes}
-use Rattle.spelling.proofs.Table.{alike, alike-eq, words-of-row}
+use Rattle.spelling.proofs.Table.{alike, alike-eq, words-of-row, row-small}
 
 -- an instruction's operands --
 
@@ -42,10 +42,10 @@ operandsOf x m (a ∷ l) = operandOf a x m ∷ operandsOf x m l
 -- instructions made of at most four codes hold their operands in order
 module _ (r x m : ℕ) where
   made : List ℕ → Instruction
-  made l = withCodes r (getD l 0 0) (getD l 1 0) (getD l 2 0) (getD l 3 0) x m
+  made l = withCodes r (getD l 0 0) (getD l 1 0) (getD l 2 0) (getD l 3 0) (fieldsOf x m)
 
   operands-made : (l : List ℕ) → nonzero l ≡ true → length l ≤ 4 → operandsHeld (made l) ≡ operandsOf x m l
-  unfolding made withCodes operandsHeld operandsOf
+  unfolding made withCodes operandsHeld operandsOf operandOf
   operands-made [] e few = refl
   operands-made (a ∷ []) e few = let s = first-is a [] e in rw (s .0)
   operands-made (a ∷ b ∷ []) e few =
@@ -139,10 +139,10 @@ good-rows = refl
 
 -- it keeps its row
 pub row-made : (r x m : ℕ) → rowIn (instructionOf r x m) ≡ r
-unfolding instructionOf withCodes rowIn
+unfolding instructionBy withCodes rowIn
 row-made r x m =
     go (eqb (codeAt r 0) 0) (eqb (codeAt r 1) 0) (eqb (codeAt r 2) 0) (eqb (codeAt r 3) 0)
-    (operandOf (codeAt r 0) x m) (operandOf (codeAt r 1) x m) (operandOf (codeAt r 2) x m) (operandOf (codeAt r 3) x m)
+    (operandBy (codeAt r 0) (fieldsOf x m)) (operandBy (codeAt r 1) (fieldsOf x m)) (operandBy (codeAt r 2) (fieldsOf x m)) (operandBy (codeAt r 3) (fieldsOf x m))
   where
     go : (a b c d : Bool) (p q s t : Operand) → rowIn (pick a (Bare r) (pick b (OfOne r p) (pick c (OfTwo r p q) (pick d (OfThree r p q s) (OfFour r p q s t))))) ≡ r
     go true b c d p q s t = refl
@@ -180,7 +180,7 @@ row-is r h =
 -- an instruction of a row has the row's form and operands, and spells the row's words
 module _ (r x m : ℕ) (h : r < 107) where
   operands-row : operandsHeld (instructionOf r x m) ≡ operandsOf x m (operandsIn (rowWords r))
-  unfolding instructionOf codeAt made
+  unfolding instructionBy codeAt made
   operands-row = operands-made r x m (operandsIn (rowWords r)) (row-is r h .codes) (row-is r h .four)
 
   form-row : drop (rowIn (instructionOf r x m) * 12) formTable ≡ formOf (drop (r * 12 + suc (length (rowWords r))) formTable) (rowWords r)
@@ -210,8 +210,8 @@ octal-most n zero some h = absurd (omega arith)
 octal-most n (suc k) some h = shown-most 8 (omega arith) 1 n k h (omega arith)
 
 -- the operand of a code by the tests of its letter
-abbrev operandBy : ℕ → ℕ → ℕ → Bool → Bool → Bool → Operand
-operandBy c x m a b d =
+abbrev operandOn : ℕ → ℕ → ℕ → Bool → Bool → Bool → Operand
+operandOn c x m a b d =
     pick a (Constant (fieldOf (c % 8) x m))
     (pick b (Indexed (fieldOf (c % 8) x m) (x / 512 % 8))
     (pick d (Constant (64 - fieldOf (c % 8) x m))
@@ -225,7 +225,7 @@ operand-most c x m h = go (eqb (c / 8) 0) (eqb (c / 8) 1) (eqb (c / 8) 2)
     number : length (shown 8 1 (fieldOf (c % 8) x m)) ≤ fieldMost (c % 8)
     number = let field = field-most (c % 8) x m h in octal-most _ _ (field .0) (field .2)
 
-    go : (a b d : Bool) → length (operandText (operandBy c x m a b d))
+    go : (a b d : Bool) → length (operandText (operandOn c x m a b d))
         ≤ pick a (fieldMost (c % 8)) (pick b (fieldMost (c % 8) + 3) (pick d 3 (1 + pick (eqb (c % 8) 5) 2 1)))
     go true b d = number
     go false true d =
@@ -265,7 +265,7 @@ small-operand c x m h = go (eqb (c / 8) 0) (eqb (c / 8) 1) (eqb (c / 8) 2)
     number : fieldOf (c % 8) x m < 16777216
     number = field-most (c % 8) x m h .3
 
-    go : (a b d : Bool) → Small (operandBy c x m a b d)
+    go : (a b d : Bool) → Small (operandOn c x m a b d)
     go true b d = number
     go false true d = (number, omega arith)
     go false false true = omega arith
@@ -314,7 +314,10 @@ unfolding signsIn
 with-words [] x m h = absurd (omega arith)
 with-words (w ∷ ws) x m h = refl
 
-module _ (x m : ℕ) (h : x < 65536) (low : rowOf x < 107) where
+module _ (x m : ℕ) (h : x < 65536) where
+  low : rowOf x < 107
+  low = row-small x h
+
   pub line-of-none : eqb (rowOf x) 0 ≡ true → lineOf x m ≡ dataLine x
   unfolding lineOf
   line-of-none e = rw (words-of-row x h, no-words (rowOf x) low .0 e)

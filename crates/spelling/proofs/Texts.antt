@@ -1,6 +1,6 @@
 -- Whole listings and whole texts, one line after the other. Assumes nothing.
 use Prim.Native.Nat.{ℕ, zero, suc, _+_, _*_, _-_, _/_, _%_, _≤_, _<_}
-use mathlib.Core.Path.{_≡_, refl, sym, _∙_, ap}
+use mathlib.Core.Path.{_≡_, refl, sym, ap}
 use mathlib.Core.Bool.{Bool, true, false, _&&_, not}
 use mathlib.Core.List.{List, [], _∷_, _++_, append-nil, append-assoc}
 use native.Mathlib.Nat.{zero-add}
@@ -18,6 +18,7 @@ use Rattle.spelling.specs.Rows.{rowWords, rowOf}
 use Rattle.spelling.specs.Assembling.{begins, Good, Bad, lineLength, Reading, All, Wrong, before, readLine, readFrom}
 use Rattle.spelling.specs.declared.Operand.the-variants.{Register, Constant, Indexed}
 use Rattle.spelling.proofs.Entries.{both-hold, every, every-at}
+use Rattle.spelling.proofs.Table.{row-small}
 use Rattle.spelling.proofs.Lines.{data-length, line-most, line-of-none, line-of-some, spelled-row}
 
 -- listings --
@@ -33,25 +34,24 @@ list-next (x ∷ m ∷ ps) h = go (second x)
     go true = refl
     go false = refl
 
--- a listing has at most 16 bytes for each parcel, where the rows of the parcels are known to be rows
+-- a listing has at most 16 bytes for each parcel
 abbrev pub Narrow : List ℕ → Type 0
 Narrow ps = (i : ℕ) → getD ps i 0 < 65536
 
-module _ (low : (x : ℕ) → x < 65536 → rowOf x < 107) where
-  pub list-most : (ps : List ℕ) → Narrow ps → length (listOf ps) ≤ 16 * length ps
-  unfolding listOf
-  list-most [] n = omega arith
-  list-most (x ∷ []) n = go (second x)
-    where
-      go : (b : Bool) → length (pick b (dataLine x) (lineOf x 0)) ≤ 16 * 1
-      go true = omega (arith, data-length x)
-      go false = line-most x 0 (n 0) (low x (n 0)) (omega arith) .1
-  list-most (x ∷ m ∷ ps) n = go (second x) (list-most ps (λ i. n (suc (suc i)))) (list-most (m ∷ ps) (λ i. n (suc i)))
-    where
-      go : (b : Bool) → length (listOf ps) ≤ 16 * length ps → length (listOf (m ∷ ps)) ≤ 16 * length (m ∷ ps)
-          → length (pick b (lineOf x m ++ listOf ps) (lineOf x 0 ++ listOf (m ∷ ps))) ≤ 16 * length (x ∷ m ∷ ps)
-      go true rest more = rw (length-append (lineOf x m) (listOf ps)) (omega (arith, rest, line-most x m (n 0) (low x (n 0)) (n 1) .1))
-      go false rest more = rw (length-append (lineOf x 0) (listOf (m ∷ ps))) (omega (arith, more, line-most x 0 (n 0) (low x (n 0)) (omega arith) .1))
+pub list-most : (ps : List ℕ) → Narrow ps → length (listOf ps) ≤ 16 * length ps
+unfolding listOf
+list-most [] n = omega arith
+list-most (x ∷ []) n = go (second x)
+  where
+    go : (b : Bool) → length (pick b (dataLine x) (lineOf x 0)) ≤ 16 * 1
+    go true = omega (arith, data-length x)
+    go false = line-most x 0 (n 0) (omega arith) .1
+list-most (x ∷ m ∷ ps) n = go (second x) (list-most ps (λ i. n (suc (suc i)))) (list-most (m ∷ ps) (λ i. n (suc i)))
+  where
+    go : (b : Bool) → length (listOf ps) ≤ 16 * length ps → length (listOf (m ∷ ps)) ≤ 16 * length (m ∷ ps)
+        → length (pick b (lineOf x m ++ listOf ps) (lineOf x 0 ++ listOf (m ∷ ps))) ≤ 16 * length (x ∷ m ∷ ps)
+    go true rest more = rw (length-append (lineOf x m) (listOf ps)) (omega (arith, rest, line-most x m (n 0) (n 1) .1))
+    go false rest more = rw (length-append (lineOf x 0) (listOf (m ∷ ps))) (omega (arith, more, line-most x 0 (n 0) (omega arith) .1))
 
 -- lines --
 
@@ -162,7 +162,8 @@ unfolding operandText operandOf Quiet
 quiet-operand c x m n = go (eqb (c / 8) 0) (eqb (c / 8) 1) (eqb (c / 8) 2)
   where
     go : (a b d : Bool)
-        → Quiet (operandText (pick a (Constant (fieldOf (c % 8) x m)) (pick b (Indexed (fieldOf (c % 8) x m) (x / 512 % 8)) (pick d (Constant (64 - fieldOf (c % 8) x m)) (Register (c / 8) (fieldOf (c % 8) x m) (eqb (c % 8) 5))))))
+        → Quiet (operandText (pick a (Constant (fieldOf (c % 8) x m)) (pick b (Indexed (fieldOf (c % 8) x m) (x / 512 % 8)) (pick d (Constant
+        (64 - fieldOf (c % 8) x m)) (Register (c / 8) (fieldOf (c % 8) x m) (eqb (c % 8) 5))))))
     go true b d = quiet-number (fieldOf (c % 8) x m)
     go false true d =
         quiet-append (shown 8 1 (fieldOf (c % 8) x m)) (44 ∷ 65 ∷ shown 8 1 (x / 512 % 8)) (quiet-number (fieldOf (c % 8) x m)) ((λ e. omega arith), ((λ e. omega arith), quiet-number (x / 512 % 8)))
@@ -196,12 +197,13 @@ data-ends x rest =
     let quiet : Quiet (signs "data=") = ((λ e. omega arith), ((λ e. omega arith), ((λ e. omega arith), ((λ e. omega arith), ((λ e. omega arith), tt))))) in
     ends-line (signs "data=" ++ digits 8 6 x) rest (quiet-append (signs "data=") (digits 8 6 x) quiet (quiet-digits 6 x))
 
-pub line-ends : (x m : ℕ) (rest : List ℕ) → x < 65536 → rowOf x < 107 → suc (lineLength (lineOf x m ++ rest)) ≡ length (lineOf x m)
-line-ends x m rest h low = go (eqb (rowOf x) 0) refl
+pub line-ends : (x m : ℕ) (rest : List ℕ) → x < 65536 → suc (lineLength (lineOf x m ++ rest)) ≡ length (lineOf x m)
+line-ends x m rest h = go (eqb (rowOf x) 0) refl
   where
     go : (b : Bool) → eqb (rowOf x) 0 ≡ b → suc (lineLength (lineOf x m ++ rest)) ≡ length (lineOf x m)
-    go true e = rw (line-of-none x m h low e) (data-ends x rest)
+    go true e = rw (line-of-none x m h e) (data-ends x rest)
     go false e =
         let r = rowOf x in
-        rw (line-of-some x m h low e, spelled-row r x m low)
+        let low = row-small x h in
+        rw (line-of-some x m h e, spelled-row r x m low)
         (ends-line (textOf (rowWords r) x m) rest (quiet-text (rowWords r) x m (every-at (λ r. quietWords (rowWords r)) 107 all-quiet r low)))

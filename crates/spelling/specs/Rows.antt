@@ -8,7 +8,7 @@ use lib.ListN.{length, getD, drop}
 use lib.Dec.{eqb, ltb, leb}
 use Rattle.machine.specs.Word.{pick}
 use Rattle.machine.specs.Parcel.{iOf, jOf, kOf}
-use Rattle.spelling.specs.Words.{operandOf, operandText}
+use Rattle.spelling.specs.Words.{fieldsOf, operandBy, operandText}
 use Rattle.spelling.specs.Spelling.{wordsOf}
 use Rattle.spelling.specs.declared.Operand.{Operand}
 use Rattle.spelling.specs.declared.Operand.the-variants.{Register, Constant, Indexed}
@@ -143,16 +143,19 @@ unfoldable pub operandTable : List ℕ
 operandTable = table (λ n. codeAt (n / 4) (n % 4)) 0 428
 
 -- an instruction of the row r with operands of these codes
-unfoldable pub withCodes : ℕ → ℕ → ℕ → ℕ → ℕ → ℕ → ℕ → Instruction
-withCodes r a b c d x m =
+unfoldable pub withCodes : ℕ → ℕ → ℕ → ℕ → ℕ → List ℕ → Instruction
+withCodes r a b c d fs =
     pick (eqb a 0) (Bare r)
-    (pick (eqb b 0) (OfOne r (operandOf a x m))
-    (pick (eqb c 0) (OfTwo r (operandOf a x m) (operandOf b x m))
-    (pick (eqb d 0) (OfThree r (operandOf a x m) (operandOf b x m) (operandOf c x m))
-    (OfFour r (operandOf a x m) (operandOf b x m) (operandOf c x m) (operandOf d x m)))))
+    (pick (eqb b 0) (OfOne r (operandBy a fs))
+    (pick (eqb c 0) (OfTwo r (operandBy a fs) (operandBy b fs))
+    (pick (eqb d 0) (OfThree r (operandBy a fs) (operandBy b fs) (operandBy c fs))
+    (OfFour r (operandBy a fs) (operandBy b fs) (operandBy c fs) (operandBy d fs)))))
 
-unfoldable pub instructionOf : ℕ → ℕ → ℕ → Instruction
-instructionOf r x m = withCodes r (codeAt r 0) (codeAt r 1) (codeAt r 2) (codeAt r 3) x m
+unfoldable pub instructionBy : ℕ → List ℕ → Instruction
+instructionBy r fs = withCodes r (codeAt r 0) (codeAt r 1) (codeAt r 2) (codeAt r 3) fs
+
+abbrev pub instructionOf : ℕ → ℕ → ℕ → Instruction
+instructionOf r x m = instructionBy r (fieldsOf x m)
 
 -- its row, and its operands
 unfoldable pub rowIn : Instruction → ℕ

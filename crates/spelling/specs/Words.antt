@@ -103,13 +103,16 @@ abbrev pub 64-jk : List ℕ
 abbrev pub jkm·Ah : List ℕ
 jkm·Ah = operand 1 6
 
--- the operand of a code, in an instruction whose parcels are x and m
+-- the operand of a code, by an instruction's fields, and in an instruction whose parcels are x and m
+abbrev pub operandBy : ℕ → List ℕ → Operand
+operandBy c fs =
+    pick (eqb (c / 8) 0) (Constant (getD fs (c % 8) 0))
+    (pick (eqb (c / 8) 1) (Indexed (getD fs (c % 8) 0) (getD fs 1 0))
+    (pick (eqb (c / 8) 2) (Constant (64 - getD fs (c % 8) 0))
+    (Register (c / 8) (getD fs (c % 8) 0) (eqb (c % 8) 5))))
+
 unfoldable pub operandOf : ℕ → ℕ → ℕ → Operand
-operandOf c x m =
-    pick (eqb (c / 8) 0) (Constant (fieldOf (c % 8) x m))
-    (pick (eqb (c / 8) 1) (Indexed (fieldOf (c % 8) x m) (hOf x))
-    (pick (eqb (c / 8) 2) (Constant (64 - fieldOf (c % 8) x m))
-    (Register (c / 8) (fieldOf (c % 8) x m) (eqb (c % 8) 5))))
+operandOf c x m = operandBy c (fieldsOf x m)
 
 -- lines
 

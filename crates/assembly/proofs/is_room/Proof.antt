@@ -7,7 +7,6 @@ use native.Mathlib.Nat.{zero-add}
 use borrow.Author.Tests.{le-leb}
 use Rattle.spelling.specs.Listing.{listOf}
 use Rattle.spelling.proofs.Texts.{list-most}
-use Rattle.spelling.proofs.Table.{row-small}
 use Rattle.assembly.proofs.Laws.{first-most, lines-next, no-lines, room-next, room-short}
 use Rattle.assembly.proofs.is_room.Statement.{statement}
 use Rattle.assembly.proofs.is_room.Tie as tie
@@ -24,7 +23,7 @@ abbrev μ-loop : tie.MeasureT-loop
 returns : tie.Need-returns Inv-loop μ-loop
 returns c =
     let k = c .before .shared-slice-known .given in
-    let most = list-most row-small (c .before .before .args .parcels .now) (λ i. let b = k i in omega (arith, b)) in
+    let most = list-most (c .before .before .args .parcels .now) (λ i. let b = k i in omega (arith, b)) in
     sym (le-leb (length (listOf (c .before .before .args .parcels .now))) (c .before .before .args .room) (omega (arith, most)))
 
 loop-holds : tie.Need-loop-holds Inv-loop μ-loop
@@ -50,7 +49,8 @@ returns-2 c =
     let n = c .before .before .before .put-next .ensures in
     let b = n .0 .place ∙ zero-add _ in
     sym
-    (c .before .before .before .before .before .before .loop .inv .2 ∙ room-short _ _ _ _ (lines-next _ _ (c .before .before .before .before .before .loop-test .taken) _ _ b (n .1 .0)) (c .if2 .taken))
+    (c .before .before .before .before .before .before .loop .inv .2 ∙ room-short _ _ _ _ (lines-next _ _
+    (c .before .before .before .before .before .loop-test .taken) _ _ b (n .1 .0)) (c .if2 .taken))
 
 loop-less : tie.Need-loop-less Inv-loop μ-loop
 loop-less c =
@@ -72,7 +72,8 @@ loop-again c =
 returns-3 : tie.Need-returns-3 Inv-loop μ-loop
 returns-3 c =
     sym
-    (c .before .loop .inv .2 ∙ ap (λ (k : ℕ). leb k (c .before .loop .left)) (ap length (no-lines (c .before .before .before .before .args .parcels .now) (c .before .loop .at) (omega arith))) ∙ le-leb 0 (c .before .loop .left) (omega arith))
+    (c .before .loop .inv .2 ∙ ap (λ (k : ℕ). leb k (c .before .loop .left)) (ap length (no-lines
+    (c .before .before .before .before .args .parcels .now) (c .before .loop .at) (omega arith))) ∙ le-leb 0 (c .before .loop .left) (omega arith))
 
 pub is-room-spec : {M : Type 1} → statement M
 is-room-spec =

@@ -5,7 +5,6 @@ use native.Mathlib.Omega.{arith}
 use lib.ListN.{length, drop, length-drop}
 use lib.Seq.{length-take-le}
 use Rattle.spelling.proofs.Lines.{line-most}
-use Rattle.spelling.proofs.Table.{row-small}
 use Rattle.assembly.proofs.Same.{found-it, found-none}
 use borrow.Author.Needs.{needs}
 use Rattle.assembly.proofs.line_at.Statement.{statement}
@@ -24,7 +23,7 @@ put-line-requires c κs =
     let s = drop (a .at) (a .text .now) in
     let long = length-drop (a .at) (a .text .now) in
     let n = ap length (c .before .copied .ensures) ∙ length-take-le 16 s (omega (arith, long)) in
-    let few = line-most (a .x) (a .m) (p .2) (row-small (a .x) (p .2)) (p .3) .1 in
+    let few = line-most (a .x) (a .m) (p .2) (p .3) .1 in
     (omega (arith, n, few), p .1, p .2, p .3, p .4, p .5)
 
 is-same-requires : tie.Need-is-same-requires
@@ -36,7 +35,7 @@ returns c =
     let p = c .before .before .before .before .before .before .before .before .pre in
     let s = drop (a .at) (a .text .now) in
     let long = length-drop (a .at) (a .text .now) in
-    let few = line-most (a .x) (a .m) (p .2) (row-small (a .x) (p .2)) (p .3) .1 in
+    let few = line-most (a .x) (a .m) (p .2) (p .3) .1 in
     found-it s 16 (c .before .before .before .before .before .before .copied .ensures) (c .before .before .before .before .put-line .ensures .0)
     (omega (arith, long)) few (sym (c .before .is-same .ensures) ∙ c .if1 .taken)
 
@@ -46,7 +45,7 @@ returns-2 c =
     let p = c .before .before .before .before .before .before .before .before .pre in
     let s = drop (a .at) (a .text .now) in
     let long = length-drop (a .at) (a .text .now) in
-    let few = line-most (a .x) (a .m) (p .2) (row-small (a .x) (p .2)) (p .3) .1 in
+    let few = line-most (a .x) (a .m) (p .2) (p .3) .1 in
     found-none s 16 (c .before .before .before .before .before .before .copied .ensures) (c .before .before .before .before .put-line .ensures .0)
     (omega (arith, long)) few (sym (c .before .is-same .ensures) ∙ c .if1 .left)
 

@@ -51,7 +51,8 @@ returns c =
     let b = c .before .before .before .before .before .before .before .shared-slice-known2 .given (a .at) in
     let n =
     next-one (a .parcels .now) (a .at) (p .0)
-    (second-is _ _ _ (omega (arith, b)) (c .before .before .before .before .before .before .row-of .ensures .0) (c .before .before .before .before .before .has-second .ensures) ∙ not-true _ (c .before .before .before .before .if1 .taken))
+    (second-is _ _ _ (omega (arith, b)) (c .before .before .before .before .before .before .row-of .ensures .0)
+    (c .before .before .before .before .before .has-second .ensures) ∙ not-true _ (c .before .before .before .before .if1 .taken))
     in
     let k = n .1 in
     (wrote-as (n .0) (c .before .before .put-line .ensures .0), (omega (arith, k), omega arith, omega arith))
@@ -85,7 +86,8 @@ returns-2 c =
     let b = c .before .before .before .before .before .before .before .before .shared-slice-known2 .given (a .at) in
     let n =
     next-last (a .parcels .now) (a .at) (p .0)
-    (second-is _ _ _ (omega (arith, b)) (c .before .before .before .before .before .before .before .row-of .ensures .0) (c .before .before .before .before .before .before .has-second .ensures) ∙ not-false _ (c .before .before .before .before .before .if1 .left))
+    (second-is _ _ _ (omega (arith, b)) (c .before .before .before .before .before .before .before .row-of .ensures .0)
+    (c .before .before .before .before .before .before .has-second .ensures) ∙ not-false _ (c .before .before .before .before .before .if1 .left))
     (c .before .before .before .before .if2 .taken) in
     let k = n .1 in
     (wrote-as (n .0) (c .before .before .put-data .ensures .0), (omega (arith, k), omega arith, omega arith))
@@ -110,7 +112,8 @@ put-line-requires-2 c κs =
     let d = c .before .shared-slice-known3 .given (a .at + 1) in
     let n =
     next-two (a .parcels .now) (a .at) (p .0)
-    (second-is _ _ _ (omega (arith, b)) (c .before .before .before .before .before .row-of .ensures .0) (c .before .before .before .before .has-second .ensures) ∙ not-false _ (c .before .before .before .if1 .left))
+    (second-is _ _ _ (omega (arith, b)) (c .before .before .before .before .before .row-of .ensures .0)
+    (c .before .before .before .before .has-second .ensures) ∙ not-false _ (c .before .before .before .if1 .left))
     (c .before .before .if2 .left) in
     let e = ap length (n .0) in
     let room = p .1 in
@@ -129,7 +132,8 @@ returns-3 c =
     let b = c .before .before .before .before .before .before .before .before .before .shared-slice-known2 .given (a .at) in
     let n =
     next-two (a .parcels .now) (a .at) (p .0)
-    (second-is _ _ _ (omega (arith, b)) (c .before .before .before .before .before .before .before .before .row-of .ensures .0) (c .before .before .before .before .before .before .before .has-second .ensures) ∙ not-false _ (c .before .before .before .before .before .before .if1 .left))
+    (second-is _ _ _ (omega (arith, b)) (c .before .before .before .before .before .before .before .before .row-of .ensures .0)
+    (c .before .before .before .before .before .before .before .has-second .ensures) ∙ not-false _ (c .before .before .before .before .before .before .if1 .left))
     (c .before .before .before .before .before .if2 .left) in
     let k = n .1 in
     (wrote-as (n .0) (c .before .before .put-line2 .ensures .0), (omega (arith, k), omega arith, omega arith))

@@ -40,7 +40,8 @@ returns-2 : tie.Need-returns-2
 returns-2 c =
     let a = c .before .before .before .before .before .before .args in
     subst (λ (r : Read). ReadsAs (a .text .now) (a .at) (readLine (drop (a .at) (a .text .now))) r) (sym (c .found2 .ensures))
-    (heard-padded (a .text .now) (a .at) (c .before .before .before .before .before .before .pre .0) (c .before .hear2 .result) (c .before .before .before .tail .result) (c .before .before .before .tail .ensures) (omega arith) (c .before .hear2 .ensures))
+    (heard-padded (a .text .now) (a .at) (c .before .before .before .before .before .before .pre .0) (c .before .hear2 .result)
+    (c .before .before .before .tail .result) (c .before .before .before .tail .ensures) (omega arith) (c .before .hear2 .ensures))
 
 pub read-line-spec : {M : Type 1} → statement M
 read-line-spec =

@@ -1,6 +1,6 @@
 use mathlib.Core.Path.{_≡_, refl, sym, ap, _∙_}
 use mathlib.Core.List.{List, [], _++_}
-use Prim.Native.Nat.{ℕ, _+_, _-_, _/_, _^_}
+use Prim.Native.Nat.{ℕ, _+_, _-_}
 use lib.ListN.{length, length-append}
 use lib.Seq.{sets}
 use native.Mathlib.Omega.{arith}

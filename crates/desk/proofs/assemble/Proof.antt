@@ -12,7 +12,8 @@ same-length : tie.Need-same-length
 same-length c = search needs
 
 returns : tie.Need-returns
-returns c = gives-refusal (cal-long _ _ (c .before .before .before .before .if1 .taken)) (c .before .before .put-refused-line .ensures .0) (c .before .before .put-refused-line .ensures .1)
+returns c =
+    gives-refusal (cal-long _ _ (c .before .before .before .before .if1 .taken)) (c .before .before .put-refused-line .ensures .0) (c .before .before .put-refused-line .ensures .1)
 
 assemble-requires : tie.Need-assemble-requires
 assemble-requires c κs = search needs
@@ -36,7 +37,11 @@ same-length-2 : tie.Need-same-length-2
 same-length-2 c = search needs
 
 returns-2 : tie.Need-returns-2
-returns-2 c = let h = cal-holds _ _ (c .before .before .before .before .before .before .before .if1 .left) _ (c .before .before .before .before .before .assemble .ensures .1) _ (sym (c .before .before .before .before .before .assemble .ensures .0) ∙ c .before .n .given .1) in gives-some (h .0) (h .1) (h .2)
+returns-2 c =
+    let h = cal-holds _ _ (c .before .before .before .before .before .before .before .if1 .left) _
+    (c .before .before .before .before .before .assemble .ensures .1) _ (sym (c .before .before .before .before .before .assemble .ensures .0)
+    ∙ c .before .n .given .1) in
+    gives-some (h .0) (h .1) (h .2)
 
 same-length-3 : tie.Need-same-length-3
 same-length-3 c = search needs
@@ -45,7 +50,10 @@ same-length-4 : tie.Need-same-length-4
 same-length-4 c = search needs
 
 returns-3 : tie.Need-returns-3
-returns-3 c = gives-refusal (cal-bad _ _ (c .before .before .before .before .before .before .before .before .before .before .before .if1 .left) _ (sym (c .before .before .before .before .before .before .before .before .before .assemble .ensures .0) ∙ c .before .before .before .before .before .line .given .1)) (c .before .before .put-refused-line2 .ensures .0) (c .before .before .put-refused-line2 .ensures .1)
+returns-3 c =
+    gives-refusal (cal-bad _ _ (c .before .before .before .before .before .before .before .before .before .before .before .if1 .left) _ (sym
+    (c .before .before .before .before .before .before .before .before .before .assemble .ensures .0)
+    ∙ c .before .before .before .before .before .line .given .1)) (c .before .before .put-refused-line2 .ensures .0) (c .before .before .put-refused-line2 .ensures .1)
 
 same-length-5 : tie.Need-same-length-5
 same-length-5 c = search needs
@@ -54,7 +62,10 @@ same-length-6 : tie.Need-same-length-6
 same-length-6 c = search needs
 
 returns-4 : tie.Need-returns-4
-returns-4 c = gives-refusal (cal-full _ _ (c .before .before .before .before .before .before .before .before .before .before .if1 .left) (sym (c .before .before .before .before .before .before .before .before .assemble .ensures .0) ∙ c .before .before .before .before .enum-told .given .1)) (c .before .before .put-refused .ensures .0) (omega (arith, c .before .before .put-refused .ensures .1))
+returns-4 c =
+    gives-refusal (cal-full _ _ (c .before .before .before .before .before .before .before .before .before .before .if1 .left) (sym
+    (c .before .before .before .before .before .before .before .before .assemble .ensures .0)
+    ∙ c .before .before .before .before .enum-told .given .1)) (c .before .before .put-refused .ensures .0) (omega (arith, c .before .before .put-refused .ensures .1))
 
 pub assemble-spec : {M : Type 1} → statement M
 assemble-spec =

@@ -17,10 +17,13 @@ slice-reshare-prefix-put-parcels : tie.Need-slice-reshare-prefix-put-parcels
 slice-reshare-prefix-put-parcels c = c .before .before .before .before .before .before .before .assemble .ensures .holds _ (c .before .n .given .1) .1
 
 slice-aggregate-put-parcels : tie.Need-slice-aggregate-put-parcels
-slice-aggregate-put-parcels c = sym (held (c .before .before .before .before .before .before .before .before .assemble .ensures) _ (c .before .before .n .given .1))
+slice-aggregate-put-parcels c =
+    sym (held (c .before .before .before .before .before .before .before .before .assemble .ensures) _ (c .before .before .n .given .1))
 
 put-parcels-requires : tie.Need-put-parcels-requires
-put-parcels-requires c κs = let h = c .before .before .before .before .before .before .before .before .before .assemble .ensures .holds _ (c .before .before .before .n .given .1) in omega (arith, held (c .before .before .before .before .before .before .before .before .before .assemble .ensures) _ (c .before .before .before .n .given .1), h .2)
+put-parcels-requires c κs =
+    let h = c .before .before .before .before .before .before .before .before .before .assemble .ensures .holds _ (c .before .before .before .n .given .1) in
+    omega (arith, held (c .before .before .before .before .before .before .before .before .before .assemble .ensures) _ (c .before .before .before .n .given .1), h .2)
 
 enum-known-n-2 : tie.Need-enum-known-n-2
 enum-known-n-2 c = search needs
@@ -33,7 +36,20 @@ same-length-2 c = search needs
 
 returns : tie.Need-returns
 unfolding calOf
-returns c = let h = c .before .before .before .before .before .before .before .before .before .before .before .before .assemble .ensures .holds _ (c .before .before .before .before .before .before .n .given .1) in (answer-some parcelsText (h .0) (h .3) (c .before .before .put-parcels .ensures .0), omega (arith, c .before .before .put-parcels .ensures .1, held (c .before .before .before .before .before .before .before .before .before .before .before .before .assemble .ensures) _ (c .before .before .before .before .before .before .n .given .1), h .1, c .before .before .before .before .before .before .before .before .before .before .before .before .assemble .kept .1 .0))
+returns c =
+    let h = c .before .before .before .before .before .before .before .before .before .before .before .before .assemble .ensures .holds _
+    (c .before .before .before .before .before .before .n .given .1) in (
+      answer-some parcelsText (h .0) (h .3) (c .before .before .put-parcels .ensures .0),
+      omega (
+        arith,
+        c .before .before .put-parcels .ensures .1,
+        held
+            (c .before .before .before .before .before .before .before .before .before .before .before .before .assemble .ensures) _
+            (c .before .before .before .before .before .before .n .given .1),
+        h .1,
+        c .before .before .before .before .before .before .before .before .before .before .before .before .assemble .kept .1 .0,
+      ),
+    )
 
 same-length-3 : tie.Need-same-length-3
 same-length-3 c = search needs
@@ -43,7 +59,9 @@ same-length-4 c = search needs
 
 returns-2 : tie.Need-returns-2
 unfolding calOf
-returns-2 c = let h = c .before .before .before .before .before .before .before .assemble .ensures .refused _ (c .before .n2 .given .1) in (answer-refusal parcelsText (h .0 .1) (h .0 .2), omega (arith, h .1))
+returns-2 c =
+    let h = c .before .before .before .before .before .before .before .assemble .ensures .refused _ (c .before .n2 .given .1) in
+    (answer-refusal parcelsText (h .0 .1) (h .0 .2), omega (arith, h .1))
 
 pub cal-spec : {M : Type 1} → statement M
 cal-spec =

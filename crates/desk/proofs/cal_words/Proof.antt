@@ -16,10 +16,13 @@ slice-reshare-prefix-put-sheet : tie.Need-slice-reshare-prefix-put-sheet
 slice-reshare-prefix-put-sheet c = c .before .before .before .before .before .before .before .assemble .ensures .holds _ (c .before .n .given .1) .1
 
 slice-aggregate-put-sheet : tie.Need-slice-aggregate-put-sheet
-slice-aggregate-put-sheet c = sym (held (c .before .before .before .before .before .before .before .before .assemble .ensures) _ (c .before .before .n .given .1))
+slice-aggregate-put-sheet c =
+    sym (held (c .before .before .before .before .before .before .before .before .assemble .ensures) _ (c .before .before .n .given .1))
 
 put-sheet-requires : tie.Need-put-sheet-requires
-put-sheet-requires c κs = let h = c .before .before .before .before .before .before .before .before .before .assemble .ensures .holds _ (c .before .before .before .n .given .1) in omega (arith, held (c .before .before .before .before .before .before .before .before .before .assemble .ensures) _ (c .before .before .before .n .given .1), h .2)
+put-sheet-requires c κs =
+    let h = c .before .before .before .before .before .before .before .before .before .assemble .ensures .holds _ (c .before .before .before .n .given .1) in
+    omega (arith, held (c .before .before .before .before .before .before .before .before .before .assemble .ensures) _ (c .before .before .before .n .given .1), h .2)
 
 enum-known-n-2 : tie.Need-enum-known-n-2
 enum-known-n-2 c = search needs
@@ -32,7 +35,10 @@ same-length-2 c = search needs
 
 returns : tie.Need-returns
 unfolding calWordsOf
-returns c = let h = c .before .before .before .before .before .before .before .before .before .before .before .before .assemble .ensures .holds _ (c .before .before .before .before .before .before .n .given .1) in (answer-some (sheetWords _) (h .0) (h .3) (c .before .before .put-sheet .ensures .0), c .before .before .put-sheet .ensures .1)
+returns c =
+    let h = c .before .before .before .before .before .before .before .before .before .before .before .before .assemble .ensures .holds _
+    (c .before .before .before .before .before .before .n .given .1) in
+    (answer-some (sheetWords _) (h .0) (h .3) (c .before .before .put-sheet .ensures .0), c .before .before .put-sheet .ensures .1)
 
 same-length-3 : tie.Need-same-length-3
 same-length-3 c = search needs
@@ -42,7 +48,9 @@ same-length-4 c = search needs
 
 returns-2 : tie.Need-returns-2
 unfolding calWordsOf
-returns-2 c = let h = c .before .before .before .before .before .before .before .assemble .ensures .refused _ (c .before .n2 .given .1) in (answer-refusal (sheetWords _) (h .0 .1) (h .0 .2), omega (arith, h .1))
+returns-2 c =
+    let h = c .before .before .before .before .before .before .before .assemble .ensures .refused _ (c .before .n2 .given .1) in
+    (answer-refusal (sheetWords _) (h .0 .1) (h .0 .2), omega (arith, h .1))
 
 pub cal-words-spec : {M : Type 1} → statement M
 cal-words-spec =

@@ -17,7 +17,8 @@ slice-reshare-prefix-put-listing : tie.Need-slice-reshare-prefix-put-listing
 slice-reshare-prefix-put-listing c = c .before .before .before .before .before .before .before .read .ensures .holds _ (c .before .n .given .1) .1
 
 slice-aggregate-put-listing : tie.Need-slice-aggregate-put-listing
-slice-aggregate-put-listing c = sym (held (c .before .before .before .before .before .before .before .before .read .ensures) _ (c .before .before .n .given .1))
+slice-aggregate-put-listing c =
+    sym (held (c .before .before .before .before .before .before .before .before .read .ensures) _ (c .before .before .n .given .1))
 
 put-listing-requires : tie.Need-put-listing-requires
 put-listing-requires c κs = search needs
@@ -33,7 +34,13 @@ same-length-2 c = search needs
 
 returns : tie.Need-returns
 unfolding listingOf
-returns c = let h = c .before .before .before .before .before .before .before .before .before .before .before .before .read .ensures .holds _ (c .before .before .before .before .before .before .n .given .1) in let e = ap length (h .3) in (listing-some (h .0) (h .3) (c .before .before .put-listing .ensures .0), λ l. omega (arith, e, c .before .before .put-listing .ensures .1 (omega (arith, l, e))))
+returns c =
+    let h = c .before .before .before .before .before .before .before .before .before .before .before .before .read .ensures .holds _
+    (c .before .before .before .before .before .before .n .given .1) in
+    let e = ap length (h .3) in (
+      listing-some (h .0) (h .3) (c .before .before .put-listing .ensures .0),
+      λ l. omega (arith, e, c .before .before .put-listing .ensures .1 (omega (arith, l, e))),
+    )
 
 same-length-3 : tie.Need-same-length-3
 same-length-3 c = search needs
@@ -43,7 +50,9 @@ same-length-4 c = search needs
 
 returns-2 : tie.Need-returns-2
 unfolding listingOf
-returns-2 c = let h = c .before .before .before .before .before .before .before .read .ensures .refused _ (c .before .n2 .given .1) in (answer-refusal (listedIn _) (h .0 .1) (h .0 .2), λ l. omega (arith, l, h .1))
+returns-2 c =
+    let h = c .before .before .before .before .before .before .before .read .ensures .refused _ (c .before .n2 .given .1) in
+    (answer-refusal (listedIn _) (h .0 .1) (h .0 .2), λ l. omega (arith, l, h .1))
 
 pub listing-spec : {M : Type 1} → statement M
 listing-spec =

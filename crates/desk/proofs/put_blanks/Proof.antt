@@ -33,7 +33,11 @@ loop-less : tie.Need-loop-less Inv-loop μ-loop
 loop-less c = omega arith
 
 loop-again : tie.Need-loop-again Inv-loop μ-loop
-loop-again c = (omega arith, c .before .before .put-byte .kept .0 ∙ c .before .before .before .before .before .loop .inv .1, λ m q w. c .before .before .before .before .before .loop .inv .2 m q (blanks-next _ _ _ (c .before .before .before .before .loop-test .taken) (c .before .before .put-byte .ensures) w))
+loop-again c = (
+  omega arith,
+  c .before .before .put-byte .kept .0 ∙ c .before .before .before .before .before .loop .inv .1,
+  λ m q w. c .before .before .before .before .before .loop .inv .2 m q (blanks-next _ _ _ (c .before .before .before .before .loop-test .taken) (c .before .before .put-byte .ensures) w),
+)
 
 add-result : tie.Need-add-result Inv-loop μ-loop
 add-result c = omega arith

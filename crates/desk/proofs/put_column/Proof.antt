@@ -16,10 +16,12 @@ put-number-requires : tie.Need-put-number-requires
 put-number-requires c κs = search needs
 
 sub-put-blanks : tie.Need-sub-put-blanks
-sub-put-blanks c = omega (arith, c .before .before .put-number .ensures .0 .place, address-most (c .before .before .before .before .before .args .address))
+sub-put-blanks c =
+    omega (arith, c .before .before .put-number .ensures .0 .place, address-most (c .before .before .before .before .before .args .address))
 
 put-blanks-requires : tie.Need-put-blanks-requires
-put-blanks-requires c κs = omega (arith, c .before .before .put-number .ensures .0 .place, address-most (c .before .before .before .before .before .args .address))
+put-blanks-requires c κs =
+    omega (arith, c .before .before .put-number .ensures .0 .place, address-most (c .before .before .before .before .before .args .address))
 
 put-number-requires-2 : tie.Need-put-number-requires-2
 put-number-requires-2 c κs = omega (arith, c .before .before .before .put-blanks .ensures .1)
@@ -28,7 +30,13 @@ same-length : tie.Need-same-length
 same-length c = search needs
 
 returns : tie.Need-returns
-returns c = let a = c .before .before .before .before .before .before .before .before .before .before .before .before .args .address in let e : c .before .before .before .before .before .before .before .before .before .put-number .result ≡ length (shown 8 1 (a % 16777216)) = omega (arith, c .before .before .before .before .before .before .before .before .before .put-number .ensures .0 .place) in (wrote-as (column-is a _ e) (then (c .before .before .before .before .before .before .put-blanks .ensures .0) (c .before .before .put-number2 .ensures .0)), omega (arith, e, address-most a, c .before .before .before .before .before .before .put-blanks .ensures .1, c .before .before .put-number2 .ensures .0 .place))
+returns c =
+    let a = c .before .before .before .before .before .before .before .before .before .before .before .before .args .address in
+    let e : c .before .before .before .before .before .before .before .before .before .put-number .result ≡ length (shown 8 1 (a % 16777216)) = omega
+    (arith, c .before .before .before .before .before .before .before .before .before .put-number .ensures .0 .place) in (
+      wrote-as (column-is a _ e) (then (c .before .before .before .before .before .before .put-blanks .ensures .0) (c .before .before .put-number2 .ensures .0)),
+      omega (arith, e, address-most a, c .before .before .before .before .before .before .put-blanks .ensures .1, c .before .before .put-number2 .ensures .0 .place),
+    )
 
 pub put-column-spec : {M : Type 1} → statement M
 put-column-spec =

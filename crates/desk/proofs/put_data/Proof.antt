@@ -20,13 +20,18 @@ slice-aggregate-put-text : tie.Need-slice-aggregate-put-text
 slice-aggregate-put-text c = sym (length-take-le _ _ (search needs))
 
 put-text-requires : tie.Need-put-text-requires
-put-text-requires c κs = let p = c .before .before .before .put-data in (search needs, omega (arith, length-take-le (p .result) (p .last .0) (search needs)))
+put-text-requires c κs =
+    let p = c .before .before .before .put-data in
+    (search needs, omega (arith, length-take-le (p .result) (p .last .0) (search needs)))
 
 same-length : tie.Need-same-length
 same-length c = search needs
 
 returns : tie.Need-returns
-returns c = let small : c .before .before .before .before .before .before .put-data .result ≤ 16 = omega (arith, c .before .before .before .before .before .before .put-data .ensures .1) in let h = copied (c .before .before .before .before .before .before .put-data .ensures .0) small (c .before .before .put-text .ensures .0) in (h .0, omega (arith, h .1))
+returns c =
+    let small : c .before .before .before .before .before .before .put-data .result ≤ 16 = omega (arith, c .before .before .before .before .before .before .put-data .ensures .1) in
+    let h = copied (c .before .before .before .before .before .before .put-data .ensures .0) small (c .before .before .put-text .ensures .0) in
+    (h .0, omega (arith, h .1))
 
 pub put-data-spec : {M : Type 1} → statement M
 put-data-spec =

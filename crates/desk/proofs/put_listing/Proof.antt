@@ -22,13 +22,18 @@ same-length : tie.Need-same-length
 same-length c = search needs
 
 returns : tie.Need-returns
-returns c = let h = listed-fits _ _ _ (c .before .before .before .before .before .list .ensures .1) _ (sym (c .before .before .before .before .before .list .ensures .0) ∙ c .before .n .given .1) in (h .0, λ l. h .1)
+returns c =
+    let h = listed-fits _ _ _ (c .before .before .before .before .before .list .ensures .1) _ (sym (c .before .before .before .before .before .list .ensures .0) ∙ c .before .n .given .1) in
+    (h .0, λ l. h .1)
 
 same-length-2 : tie.Need-same-length-2
 same-length-2 c = search needs
 
 returns-2 : tie.Need-returns-2
-returns-2 c = let h = listed-full _ _ _ (c .before .before .before .before .before .before .before .before .list .ensures .1) (sym (c .before .before .before .before .before .before .before .before .list .ensures .0) ∙ c .before .before .before .before .enum-told .given .1) in (wrote-as (h .0) (rw (← h .1) (c .before .before .put-refused .ensures .0)), λ l. omega (arith, l, c .before .before .put-refused .ensures .1))
+returns-2 c =
+    let h = listed-full _ _ _ (c .before .before .before .before .before .before .before .before .list .ensures .1) (sym
+    (c .before .before .before .before .before .before .before .before .list .ensures .0) ∙ c .before .before .before .before .enum-told .given .1) in
+    (wrote-as (h .0) (rw (← h .1) (c .before .before .put-refused .ensures .0)), λ l. omega (arith, l, c .before .before .put-refused .ensures .1))
 
 pub put-listing-spec : {M : Type 1} → statement M
 put-listing-spec =

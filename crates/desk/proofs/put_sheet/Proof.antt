@@ -15,7 +15,11 @@ same-length : tie.Need-same-length
 same-length c = search needs
 
 returns : tie.Need-returns
-returns c = let a = c .before .before .before .before .before .before .before .before .args in (wrote-as (sheet-full (a .address) (a .parcels .now) (omega (arith, c .before .before .before .before .before .words-for .ensures))) (c .before .before .put-refused .ensures .0), omega (arith, c .before .before .put-refused .ensures .1))
+returns c =
+    let a = c .before .before .before .before .before .before .before .before .args in (
+      wrote-as (sheet-full (a .address) (a .parcels .now) (omega (arith, c .before .before .before .before .before .words-for .ensures))) (c .before .before .put-refused .ensures .0),
+      omega (arith, c .before .before .put-refused .ensures .1),
+    )
 
 put-refused-requires-2 : tie.Need-put-refused-requires-2
 put-refused-requires-2 c κs = search needs
@@ -24,7 +28,11 @@ same-length-2 : tie.Need-same-length-2
 same-length-2 c = search needs
 
 returns-2 : tie.Need-returns-2
-returns-2 c = let a = c .before .before .before .before .before .before .before .before .before .args in (wrote-as (sheet-full (a .address) (a .parcels .now) (omega (arith, c .before .before .before .before .before .before .words-for .ensures))) (c .before .before .put-refused2 .ensures .0), omega (arith, c .before .before .put-refused2 .ensures .1))
+returns-2 c =
+    let a = c .before .before .before .before .before .before .before .before .before .args in (
+      wrote-as (sheet-full (a .address) (a .parcels .now) (omega (arith, c .before .before .before .before .before .before .words-for .ensures))) (c .before .before .put-refused2 .ensures .0),
+      omega (arith, c .before .before .put-refused2 .ensures .1),
+    )
 
 put-words-requires : tie.Need-put-words-requires
 put-words-requires c κs = search needs
@@ -33,7 +41,11 @@ same-length-3 : tie.Need-same-length-3
 same-length-3 c = search needs
 
 returns-3 : tie.Need-returns-3
-returns-3 c = let a = c .before .before .before .before .before .before .before .before .before .args in (wrote-as (sheet-fits (a .address) (a .parcels .now) (omega (arith, c .before .before .before .before .before .before .words-for .ensures))) (c .before .before .put-words .ensures .0), omega (arith, c .before .before .put-words .ensures .1, c .before .before .before .before .before .before .words-for .ensures))
+returns-3 c =
+    let a = c .before .before .before .before .before .before .before .before .before .args in (
+      wrote-as (sheet-fits (a .address) (a .parcels .now) (omega (arith, c .before .before .before .before .before .before .words-for .ensures))) (c .before .before .put-words .ensures .0),
+      omega (arith, c .before .before .put-words .ensures .1, c .before .before .before .before .before .before .words-for .ensures),
+    )
 
 pub put-sheet-spec : {M : Type 1} → statement M
 put-sheet-spec =

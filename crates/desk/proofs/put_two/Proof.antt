@@ -20,7 +20,19 @@ same-length : tie.Need-same-length
 same-length c = search needs
 
 returns : tie.Need-returns
-returns c = (then (then (then (c .before .before .before .before .before .before .before .before .before .before .before .before .before .before .put-parcel .ensures .0) (c .before .before .before .before .before .before .before .before .before .before .put-blanks .ensures .0)) (c .before .before .before .before .before .before .put-parcel2 .ensures .0)) (c .before .before .put-blanks2 .ensures .0), omega (arith, c .before .before .before .before .before .before .before .before .before .before .before .before .before .before .put-parcel .ensures .1, c .before .before .before .before .before .before .before .before .before .before .put-blanks .ensures .1, c .before .before .before .before .before .before .put-parcel2 .ensures .1, c .before .before .put-blanks2 .ensures .1))
+returns c = (
+  then (then (then
+      (c .before .before .before .before .before .before .before .before .before .before .before .before .before .before .put-parcel .ensures .0)
+      (c .before .before .before .before .before .before .before .before .before .before .put-blanks .ensures .0))
+      (c .before .before .before .before .before .before .put-parcel2 .ensures .0)) (c .before .before .put-blanks2 .ensures .0),
+  omega (
+    arith,
+    c .before .before .before .before .before .before .before .before .before .before .before .before .before .before .put-parcel .ensures .1,
+    c .before .before .before .before .before .before .before .before .before .before .put-blanks .ensures .1,
+    c .before .before .before .before .before .before .put-parcel2 .ensures .1,
+    c .before .before .put-blanks2 .ensures .1,
+  ),
+)
 
 pub put-two-spec : {M : Type 1} → statement M
 put-two-spec =

@@ -21,19 +21,28 @@ same-length : tie.Need-same-length
 same-length c = search needs
 
 returns : tie.Need-returns
-returns c = let s = c .before .before .before .before .before .before .before .before .before .before .args in assemble-leaves (s .text .now) (s .parcels .now) (s .report .now) _ _ (sym (c .before .before .n .given .1) ∙ c .before .before .before .before .before .before .assemble .ensures .0) (c .before .before .before .before .before .before .assemble .ensures .1)
+returns c =
+    let s = c .before .before .before .before .before .before .before .before .before .before .args in
+    assemble-leaves (s .text .now) (s .parcels .now) (s .report .now) _ _ (sym (c .before .before .n .given .1)
+    ∙ c .before .before .before .before .before .before .assemble .ensures .0) (c .before .before .before .before .before .before .assemble .ensures .1)
 
 same-length-2 : tie.Need-same-length-2
 same-length-2 c = search needs
 
 returns-2 : tie.Need-returns-2
-returns-2 c = let s = c .before .before .before .before .before .before .before .before .before .before .args in assemble-leaves (s .text .now) (s .parcels .now) (s .report .now) _ _ (sym (c .before .before .line .given .1) ∙ c .before .before .before .before .before .before .assemble .ensures .0) (c .before .before .before .before .before .before .assemble .ensures .1)
+returns-2 c =
+    let s = c .before .before .before .before .before .before .before .before .before .before .args in
+    assemble-leaves (s .text .now) (s .parcels .now) (s .report .now) _ _ (sym (c .before .before .line .given .1)
+    ∙ c .before .before .before .before .before .before .assemble .ensures .0) (c .before .before .before .before .before .before .assemble .ensures .1)
 
 same-length-3 : tie.Need-same-length-3
 same-length-3 c = search needs
 
 returns-3 : tie.Need-returns-3
-returns-3 c = let s = c .before .before .before .before .before .before .before .before .args in assemble-leaves (s .text .now) (s .parcels .now) (s .report .now) _ _ (sym (c .enum-told .given .1) ∙ c .before .before .before .before .assemble .ensures .0) (c .before .before .before .before .assemble .ensures .1)
+returns-3 c =
+    let s = c .before .before .before .before .before .before .before .before .args in
+    assemble-leaves (s .text .now) (s .parcels .now) (s .report .now) _ _ (sym (c .enum-told .given .1)
+    ∙ c .before .before .before .before .assemble .ensures .0) (c .before .before .before .before .assemble .ensures .1)
 
 pub pulxarrid-assemble-spec : {M : Type 1} → statement M
 pulxarrid-assemble-spec =

@@ -18,13 +18,19 @@ same-length : tie.Need-same-length
 same-length c = search needs
 
 returns : tie.Need-returns
-returns c = let s = c .before .before .before .before .before .before .before .before .before .before .args in list-leaves (s .parcels .now) (s .text .now) (s .report .now) _ _ (sym (c .before .before .n .given .1) ∙ c .before .before .before .before .before .before .list .ensures .0) (c .before .before .before .before .before .before .list .ensures .1)
+returns c =
+    let s = c .before .before .before .before .before .before .before .before .before .before .args in
+    list-leaves (s .parcels .now) (s .text .now) (s .report .now) _ _ (sym (c .before .before .n .given .1)
+    ∙ c .before .before .before .before .before .before .list .ensures .0) (c .before .before .before .before .before .before .list .ensures .1)
 
 same-length-2 : tie.Need-same-length-2
 same-length-2 c = search needs
 
 returns-2 : tie.Need-returns-2
-returns-2 c = let s = c .before .before .before .before .before .before .before .before .args in list-leaves (s .parcels .now) (s .text .now) (s .report .now) _ _ (sym (c .enum-told .given .1) ∙ c .before .before .before .before .list .ensures .0) (c .before .before .before .before .list .ensures .1)
+returns-2 c =
+    let s = c .before .before .before .before .before .before .before .before .args in
+    list-leaves (s .parcels .now) (s .text .now) (s .report .now) _ _ (sym (c .enum-told .given .1)
+    ∙ c .before .before .before .before .list .ensures .0) (c .before .before .before .before .list .ensures .1)
 
 pub pulxarrid-list-spec : {M : Type 1} → statement M
 pulxarrid-list-spec =

@@ -1,5 +1,5 @@
 use borrow.Author.Tests.{eq-eqb, ne-eqb}
-use Rattle.spelling.specs.Rows.{withCodes, instructionOf}
+use Rattle.spelling.specs.Rows.{withCodes, instructionBy}
 use borrow.Author.Needs.{needs}
 use Rattle.line.proofs.decode.Statement.{statement}
 use Rattle.line.proofs.decode.Tie as tie
@@ -8,8 +8,8 @@ code-at-requires : tie.Need-code-at-requires
 code-at-requires c κs = search needs
 
 returns : tie.Need-returns
-unfolding withCodes instructionOf
-returns c = λ x m e. simp (← c .before .code-at .ensures .0, eq-eqb _ _ (c .if1 .taken))
+unfolding withCodes instructionBy
+returns c = simp (← c .before .code-at .ensures .0, eq-eqb _ _ (c .if1 .taken))
 
 operand-requires : tie.Need-operand-requires
 operand-requires c κs = search needs
@@ -18,14 +18,14 @@ code-at-requires-2 : tie.Need-code-at-requires-2
 code-at-requires-2 c κs = search needs
 
 returns-2 : tie.Need-returns-2
-unfolding withCodes instructionOf
-returns-2 c = λ x m e.
+unfolding withCodes instructionBy
+returns-2 c =
     simp (
       ← c .before .before .before .before .code-at .ensures .0,
       ← c .before .code-at2 .ensures .0,
       ne-eqb _ _ (c .before .before .before .if1 .left),
       eq-eqb _ _ (c .if2 .taken),
-      c .before .before .operand .ensures x m e,
+      c .before .before .operand .ensures,
     )
 
 operand-requires-2 : tie.Need-operand-requires-2
@@ -35,8 +35,8 @@ code-at-requires-3 : tie.Need-code-at-requires-3
 code-at-requires-3 c κs = search needs
 
 returns-3 : tie.Need-returns-3
-unfolding withCodes instructionOf
-returns-3 c = λ x m e.
+unfolding withCodes instructionBy
+returns-3 c =
     simp (
       ← c .before .before .before .before .before .before .before .code-at .ensures .0,
       ← c .before .before .before .before .code-at2 .ensures .0,
@@ -44,8 +44,8 @@ returns-3 c = λ x m e.
       ne-eqb _ _ (c .before .before .before .before .before .before .if1 .left),
       ne-eqb _ _ (c .before .before .before .if2 .left),
       eq-eqb _ _ (c .if3 .taken),
-      c .before .before .before .before .before .operand .ensures x m e,
-      c .before .before .operand2 .ensures x m e,
+      c .before .before .before .before .before .operand .ensures,
+      c .before .before .operand2 .ensures,
     )
 
 operand-requires-3 : tie.Need-operand-requires-3
@@ -55,8 +55,8 @@ code-at-requires-4 : tie.Need-code-at-requires-4
 code-at-requires-4 c κs = search needs
 
 returns-4 : tie.Need-returns-4
-unfolding withCodes instructionOf
-returns-4 c = λ x m e.
+unfolding withCodes instructionBy
+returns-4 c =
     simp (
       ← c .before .before .before .before .before .before .before .before .before .before .code-at .ensures .0,
       ← c .before .before .before .before .before .before .before .code-at2 .ensures .0,
@@ -66,17 +66,17 @@ returns-4 c = λ x m e.
       ne-eqb _ _ (c .before .before .before .before .before .before .if2 .left),
       ne-eqb _ _ (c .before .before .before .if3 .left),
       eq-eqb _ _ (c .if4 .taken),
-      c .before .before .before .before .before .before .before .before .operand .ensures x m e,
-      c .before .before .before .before .before .operand2 .ensures x m e,
-      c .before .before .operand3 .ensures x m e,
+      c .before .before .before .before .before .before .before .before .operand .ensures,
+      c .before .before .before .before .before .operand2 .ensures,
+      c .before .before .operand3 .ensures,
     )
 
 operand-requires-4 : tie.Need-operand-requires-4
 operand-requires-4 c κs = search needs
 
 returns-5 : tie.Need-returns-5
-unfolding withCodes instructionOf
-returns-5 c = λ x m e.
+unfolding withCodes instructionBy
+returns-5 c =
     simp (
       ← c .before .before .before .before .before .before .before .before .before .before .before .code-at .ensures .0,
       ← c .before .before .before .before .before .before .before .before .code-at2 .ensures .0,
@@ -86,10 +86,10 @@ returns-5 c = λ x m e.
       ne-eqb _ _ (c .before .before .before .before .before .before .before .if2 .left),
       ne-eqb _ _ (c .before .before .before .before .if3 .left),
       ne-eqb _ _ (c .before .if4 .left),
-      c .before .before .before .before .before .before .before .before .before .operand .ensures x m e,
-      c .before .before .before .before .before .before .operand2 .ensures x m e,
-      c .before .before .before .operand3 .ensures x m e,
-      c .operand4 .ensures x m e,
+      c .before .before .before .before .before .before .before .before .before .operand .ensures,
+      c .before .before .before .before .before .before .operand2 .ensures,
+      c .before .before .before .operand3 .ensures,
+      c .operand4 .ensures,
     )
 
 pub decode-spec : {M : Type 1} → statement M

@@ -3,7 +3,6 @@ use Prim.Native.Nat.{_-_, _/_, _%_}
 use native.Mathlib.Omega.{arith}
 use lib.ListN.{getD}
 use borrow.Author.Tests.{eq-eqb, ne-eqb}
-use Rattle.spelling.specs.Words.{operandOf}
 use borrow.Author.Needs.{needs}
 use Rattle.line.proofs.operand.Statement.{statement}
 use Rattle.line.proofs.operand.Tie as tie
@@ -18,40 +17,34 @@ cast-t17 : tie.Need-cast-t17
 cast-t17 c = search needs
 
 returns : tie.Need-returns
-unfolding operandOf
-returns c = λ x m e.
+returns c =
     let l = c .before .before .args .code / 8 in
-    simp (ne-eqb l 0 (λ z. omega arith), ne-eqb l 1 (λ z. omega arith), ne-eqb l 2 (λ z. omega arith), e)
+    simp (ne-eqb l 0 (λ z. omega arith), ne-eqb l 1 (λ z. omega arith), ne-eqb l 2 (λ z. omega arith))
 
 returns-2 : tie.Need-returns-2
-unfolding operandOf
-returns-2 c = λ x m e. simp (eq-eqb _ _ (c .if2 .taken), e)
+returns-2 c = simp (eq-eqb _ _ (c .if2 .taken))
 
 element-copy-out-t29 : tie.Need-element-copy-out-t29
 element-copy-out-t29 c = search needs
 
 returns-3 : tie.Need-returns-3
-unfolding operandOf
-returns-3 c = λ x m e. simp (ne-eqb _ _ (c .before .before .if2 .left), eq-eqb _ _ (c .before .if3 .taken), e)
+returns-3 c = simp (ne-eqb _ _ (c .before .before .if2 .left), eq-eqb _ _ (c .before .if3 .taken))
 
 sub-t33 : tie.Need-sub-t33
 sub-t33 c = search needs
 
 returns-4 : tie.Need-returns-4
-unfolding operandOf
-returns-4 c = λ x m e.
+returns-4 c =
     simp (
       ne-eqb _ _ (c .before .before .if2 .left),
       ne-eqb _ _ (c .before .if3 .left),
       eq-eqb (c .before .before .before .before .before .args .code / 8) 2 (omega arith),
-      e,
     )
 
 returns-5 : tie.Need-returns-5
-unfolding operandOf
-returns-5 c = λ x m e.
+returns-5 c =
     let none : 64 - getD (c .before .before .before .before .before .args .fields .now) (c .before .before .before .before .before .args .code % 8) 0 ≡ 0 = omega arith in
-    simp (ne-eqb _ _ (c .before .before .if2 .left), ne-eqb _ _ (c .before .if3 .left), eq-eqb (c .before .before .before .before .before .args .code / 8) 2 (omega arith), ← e, none)
+    simp (ne-eqb _ _ (c .before .before .if2 .left), ne-eqb _ _ (c .before .if3 .left), eq-eqb (c .before .before .before .before .before .args .code / 8) 2 (omega arith), none)
 
 pub operand-spec : {M : Type 1} → statement M
 operand-spec =

@@ -44,10 +44,12 @@ digit-of-requires : tie.Need-digit-of-requires Inv-loop μ-loop Inv-lines μ-lin
 digit-of-requires c κs = search needs
 
 mul-p : tie.Need-mul-p Inv-loop μ-loop Inv-lines μ-lines
-mul-p c = omega (arith, digits-most 8 _ _ 6 (lit< tt) (c .before .before .before .before .loop .inv .1) (c .before .before .before .before .loop .inv .0))
+mul-p c =
+    omega (arith, digits-most 8 _ _ 6 (lit< tt) (c .before .before .before .before .loop .inv .1) (c .before .before .before .before .loop .inv .0))
 
 add-p : tie.Need-add-p Inv-loop μ-loop Inv-lines μ-lines
-add-p c = omega (arith, digits-most 8 _ _ 6 (lit< tt) (c .before .before .before .before .loop .inv .1) (c .before .before .before .before .loop .inv .0))
+add-p c =
+    omega (arith, digits-most 8 _ _ 6 (lit< tt) (c .before .before .before .before .loop .inv .1) (c .before .before .before .before .loop .inv .0))
 
 add-d : tie.Need-add-d Inv-loop μ-loop Inv-lines μ-lines
 add-d c = omega arith
@@ -56,7 +58,14 @@ loop-less : tie.Need-loop-less Inv-loop μ-loop Inv-lines μ-lines
 loop-less c = omega arith
 
 loop-again : tie.Need-loop-again Inv-loop μ-loop Inv-lines μ-lines
-loop-again c = (omega arith, digit-more 8 _ _ _ (c .before .before .before .before .loop .inv .1) (c .if3 .left), c .before .before .before .before .loop .inv .2 ∙ all-next 8 _ 6 _ _ (c .before .before .before .loop-test .taken) _ (c .before .digit-of .ensures .0) _ (add-assoc _ _ _) (c .if3 .left), c .before .before .before .before .loop .inv .3 ∙ number-next 8 _ 6 _ _ (c .before .before .before .loop-test .taken) _ (c .before .digit-of .ensures .0) _ (add-assoc _ _ _) _)
+loop-again c = (
+  omega arith,
+  digit-more 8 _ _ _ (c .before .before .before .before .loop .inv .1) (c .if3 .left),
+  c .before .before .before .before .loop .inv .2
+      ∙ all-next 8 _ 6 _ _ (c .before .before .before .loop-test .taken) _ (c .before .digit-of .ensures .0) _ (add-assoc _ _ _) (c .if3 .left),
+  c .before .before .before .before .loop .inv .3
+      ∙ number-next 8 _ 6 _ _ (c .before .before .before .loop-test .taken) _ (c .before .digit-of .ensures .0) _ (add-assoc _ _ _) _,
+)
 
 add-if4 : tie.Need-add-if4 Inv-loop μ-loop Inv-lines μ-lines
 add-if4 c = omega arith
@@ -74,7 +83,13 @@ lines-less : tie.Need-lines-less Inv-loop μ-loop Inv-lines μ-lines
 lines-less c = omega arith
 
 lines-again : tie.Need-lines-again Inv-loop μ-loop Inv-lines μ-lines
-lines-again c = (omega arith, c .before .before .before .before .before .before .before .lines .inv .1 ∙ line-good _ _ _ _ (c .before .before .before .before .before .before .if1 .left) (omega arith) (right _ _ (c .before .before .before .before .loop .inv .2 ∙ all-done 8 _ 6 _ _ (c .before .before .before .loop-test .left)) (c .before .if4 .left) _ (c .before .before .before .before .loop .inv .3 ∙ number-done 8 _ 6 _ _ (c .before .before .before .loop-test .left) _) (c .if5 .left)))
+lines-again c = (
+  omega arith,
+  c .before .before .before .before .before .before .before .lines .inv .1
+      ∙ line-good _ _ _ _ (c .before .before .before .before .before .before .if1 .left) (omega arith) (right _ _
+      (c .before .before .before .before .loop .inv .2 ∙ all-done 8 _ 6 _ _ (c .before .before .before .loop-test .left)) (c .before .if4 .left) _
+      (c .before .before .before .before .loop .inv .3 ∙ number-done 8 _ 6 _ _ (c .before .before .before .loop-test .left) _) (c .if5 .left)),
+)
 
 returns : tie.Need-returns Inv-loop μ-loop Inv-lines μ-lines
 returns c = sym (c .before .lines .inv .1 ∙ line-none _ _ _ _ (c .if1 .taken))
@@ -83,13 +98,21 @@ returns-2 : tie.Need-returns-2 Inv-loop μ-loop Inv-lines μ-lines
 returns-2 c = sym (c .before .before .lines .inv .1 ∙ line-bad _ _ _ _ (c .before .if1 .left) (too-short _ _ (omega arith)))
 
 returns-3 : tie.Need-returns-3 Inv-loop μ-loop Inv-lines μ-lines
-returns-3 c = sym (c .before .before .before .before .before .before .before .lines .inv .1 ∙ line-bad _ _ _ _ (c .before .before .before .before .before .before .if1 .left) (no-digits _ _ (c .before .before .before .before .loop .inv .2 ∙ all-not 8 _ 6 _ _ (c .before .before .before .loop-test .taken) _ (c .before .digit-of .ensures .0) (c .if3 .taken))))
+returns-3 c =
+    sym (c .before .before .before .before .before .before .before .lines .inv .1 ∙ line-bad _ _ _ _
+    (c .before .before .before .before .before .before .if1 .left) (no-digits _ _ (c .before .before .before .before .loop .inv .2
+    ∙ all-not 8 _ 6 _ _ (c .before .before .before .loop-test .taken) _ (c .before .digit-of .ensures .0) (c .if3 .taken))))
 
 returns-4 : tie.Need-returns-4 Inv-loop μ-loop Inv-lines μ-lines
-returns-4 c = sym (c .before .before .before .before .before .before .lines .inv .1 ∙ line-bad _ _ _ _ (c .before .before .before .before .before .if1 .left) (no-end _ _ (c .if4 .taken)))
+returns-4 c =
+    sym (c .before .before .before .before .before .before .lines .inv .1 ∙ line-bad _ _ _ _ (c .before .before .before .before .before .if1 .left) (no-end _ _ (c .if4 .taken)))
 
 returns-5 : tie.Need-returns-5 Inv-loop μ-loop Inv-lines μ-lines
-returns-5 c = sym (c .before .before .before .before .before .before .before .lines .inv .1 ∙ line-bad _ _ _ _ (c .before .before .before .before .before .before .if1 .left) (too-large _ _ (c .before .before .before .before .loop .inv .2 ∙ all-done 8 _ 6 _ _ (c .before .before .before .loop-test .left)) (c .before .if4 .left) _ (c .before .before .before .before .loop .inv .3 ∙ number-done 8 _ 6 _ _ (c .before .before .before .loop-test .left) _) (c .if5 .taken)))
+returns-5 c =
+    sym (c .before .before .before .before .before .before .before .lines .inv .1 ∙ line-bad _ _ _ _
+    (c .before .before .before .before .before .before .if1 .left) (too-large _ _ (c .before .before .before .before .loop .inv .2
+    ∙ all-done 8 _ 6 _ _ (c .before .before .before .loop-test .left)) (c .before .if4 .left) _ (c .before .before .before .before .loop .inv .3
+    ∙ number-done 8 _ 6 _ _ (c .before .before .before .loop-test .left) _) (c .if5 .taken)))
 
 pub bad-line-spec : {M : Type 1} → statement M
 bad-line-spec =

@@ -24,7 +24,10 @@ sub-result-2 c = omega (arith, range _ _ _ (sym (c .before .is-within2 .ensures)
 
 returns-2 : tie.Need-returns-2
 unfolding digitOf
-returns-2 c = (rw (← c .before .before .before .is-within .ensures, c .before .before .if1 .left, ← c .before .is-within2 .ensures, c .if2 .taken), omega (arith, range _ _ _ (sym (c .before .is-within2 .ensures) ∙ c .if2 .taken)))
+returns-2 c = (
+  rw (← c .before .before .before .is-within .ensures, c .before .before .if1 .left, ← c .before .is-within2 .ensures, c .if2 .taken),
+  omega (arith, range _ _ _ (sym (c .before .is-within2 .ensures) ∙ c .if2 .taken)),
+)
 
 is-within-requires-3 : tie.Need-is-within-requires-3
 is-within-requires-3 c κs = search needs
@@ -34,11 +37,33 @@ sub-result-3 c = omega (arith, range _ _ _ (sym (c .before .is-within3 .ensures)
 
 returns-3 : tie.Need-returns-3
 unfolding digitOf
-returns-3 c = (rw (← c .before .before .before .before .before .is-within .ensures, c .before .before .before .before .if1 .left, ← c .before .before .before .is-within2 .ensures, c .before .before .if2 .left, ← c .before .is-within3 .ensures, c .if3 .taken), omega (arith, range _ _ _ (sym (c .before .is-within3 .ensures) ∙ c .if3 .taken)))
+returns-3 c = (
+  rw (
+    ← c .before .before .before .before .before .is-within .ensures,
+    c .before .before .before .before .if1 .left,
+    ←
+        c .before .before .before .is-within2 .ensures,
+    c .before .before .if2 .left,
+    ← c .before .is-within3 .ensures,
+    c .if3 .taken,
+  ),
+  omega (arith, range _ _ _ (sym (c .before .is-within3 .ensures) ∙ c .if3 .taken)),
+)
 
 returns-4 : tie.Need-returns-4
 unfolding digitOf
-returns-4 c = (rw (← c .before .before .before .before .before .is-within .ensures, c .before .before .before .before .if1 .left, ← c .before .before .before .is-within2 .ensures, c .before .before .if2 .left, ← c .before .is-within3 .ensures, c .if3 .left), omega arith)
+returns-4 c = (
+  rw (
+    ← c .before .before .before .before .before .is-within .ensures,
+    c .before .before .before .before .if1 .left,
+    ←
+        c .before .before .before .is-within2 .ensures,
+    c .before .before .if2 .left,
+    ← c .before .is-within3 .ensures,
+    c .if3 .left,
+  ),
+  omega arith,
+)
 
 pub digit-of-spec : {M : Type 1} → statement M
 digit-of-spec =

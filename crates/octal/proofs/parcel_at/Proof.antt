@@ -41,7 +41,12 @@ loop-less : tie.Need-loop-less Inv-loop μ-loop
 loop-less c = omega arith
 
 loop-again : tie.Need-loop-again Inv-loop μ-loop
-loop-again c = (omega arith, digit-wide 8 _ _ _ (omega arith) (c .digit-of .ensures .1) (c .before .before .before .loop .inv .1), c .before .before .before .loop .inv .2 ∙ number-next 8 _ 6 _ _ (c .before .before .loop-test .taken) _ (c .digit-of .ensures .0) _ (add-assoc _ _ _) _)
+loop-again c = (
+  omega arith,
+  digit-wide 8 _ _ _ (omega arith) (c .digit-of .ensures .1) (c .before .before .before .loop .inv .1),
+  c .before .before .before .loop .inv .2
+      ∙ number-next 8 _ 6 _ _ (c .before .before .loop-test .taken) _ (c .digit-of .ensures .0) _ (add-assoc _ _ _) _,
+)
 
 returns : tie.Need-returns Inv-loop μ-loop
 returns c = sym (c .before .loop .inv .2 ∙ number-done 8 _ 6 _ _ (c .loop-test .left) _)

@@ -20,7 +20,16 @@ same-length : tie.Need-same-length
 same-length c = search needs
 
 returns : tie.Need-returns
-returns c = (then (then (c .before .before .before .before .before .before .before .before .before .before .before .put-text .ensures .0) (c .before .before .before .before .before .before .before .put-number .ensures .0)) (c .before .before .put-text2 .ensures .0), omega (arith, c .before .before .before .before .before .before .before .before .before .before .before .put-text .ensures .1, c .before .before .before .before .before .before .before .put-number .ensures .1, c .before .before .put-text2 .ensures .0 .place))
+returns c = (
+  then (then (c .before .before .before .before .before .before .before .before .before .before .before .put-text .ensures .0)
+      (c .before .before .before .before .before .before .before .put-number .ensures .0)) (c .before .before .put-text2 .ensures .0),
+  omega (
+    arith,
+    c .before .before .before .before .before .before .before .before .before .before .before .put-text .ensures .1,
+    c .before .before .before .before .before .before .before .put-number .ensures .1,
+    c .before .before .put-text2 .ensures .0 .place,
+  ),
+)
 
 pub put-line-spec : {M : Type 1} → statement M
 put-line-spec =

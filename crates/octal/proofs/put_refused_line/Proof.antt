@@ -19,7 +19,10 @@ same-length c = search needs
 
 returns : tie.Need-returns
 unfolding refusedLine
-returns c = (then (c .before .before .before .before .before .before .before .put-refused .ensures .0) (c .before .before .put-line .ensures .0), omega (arith, c .before .before .before .before .before .before .before .put-refused .ensures .1, c .before .before .put-line .ensures .1))
+returns c = (
+  then (c .before .before .before .before .before .before .before .put-refused .ensures .0) (c .before .before .put-line .ensures .0),
+  omega (arith, c .before .before .before .before .before .before .before .put-refused .ensures .1, c .before .before .put-line .ensures .1),
+)
 
 pub put-refused-line-spec : {M : Type 1} → statement M
 put-refused-line-spec =

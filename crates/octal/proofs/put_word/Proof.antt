@@ -34,7 +34,14 @@ same-length : tie.Need-same-length
 same-length c = search needs
 
 returns : tie.Need-returns
-returns c = (wrote-to (omega arith) (then (wrote-digits 16 4 _ (c .before .before .before .before .before .before .before .before .before .before .before .before .before .before .put-digits .ensures)) (then (wrote-to (omega arith) (wrote-byte (c .before .before .before .before .before .before .before .before .before .before .put-byte .ensures))) (then (wrote-to (omega arith) (wrote-digits 16 16 _ (c .before .before .before .before .before .before .put-digits2 .ensures))) (wrote-byte (c .before .before .put-byte2 .ensures))))), refl)
+returns c = (
+  wrote-to (omega arith) (then (wrote-digits 16 4 _
+      (c .before .before .before .before .before .before .before .before .before .before .before .before .before .before .put-digits .ensures)) (then
+      (wrote-to (omega arith) (wrote-byte (c .before .before .before .before .before .before .before .before .before .before .put-byte .ensures)))
+      (then (wrote-to (omega arith) (wrote-digits 16 16 _ (c .before .before .before .before .before .before .put-digits2 .ensures))) (wrote-byte
+      (c .before .before .put-byte2 .ensures))))),
+  refl,
+)
 
 pub put-word-spec : {M : Type 1} → statement M
 put-word-spec =

@@ -11,7 +11,12 @@ use Rattle.octal.proofs.store.Statement.{statement}
 use Rattle.octal.proofs.store.Tie as tie
 
 abbrev Inv-loop : tie.InvT-loop
-Inv-loop text n room₀ i₀ at₀ room i at = (i ≤ n) × (at ≡ 7 * i) × (length room ≡ length room₀) × (badLine (length text + 1 - (i + 1)) text at (i + 1) ≡ 0) × (sets room₀ 0 (parcelsFrom n text 0) ≡ sets room i (parcelsFrom (n - i) text at))
+Inv-loop text n room₀ i₀ at₀ room i at =
+    (i ≤ n)
+    × (at ≡ 7 * i)
+    × (length room ≡ length room₀)
+    × (badLine (length text + 1 - (i + 1)) text at (i + 1) ≡ 0)
+    × (sets room₀ 0 (parcelsFrom n text 0) ≡ sets room i (parcelsFrom (n - i) text at))
 
 abbrev μ-loop : tie.MeasureT-loop
 μ-loop text n room₀ i₀ at₀ room i at = n - i
@@ -23,7 +28,8 @@ parcel-at-requires : tie.Need-parcel-at-requires Inv-loop μ-loop
 parcel-at-requires c κs = search needs
 
 cast-room : tie.Need-cast-room Inv-loop μ-loop
-cast-room c = record { fits = let p = narrow _ _ (line-right _ _ _ _ (omega arith) (omega arith) (c .before .before .loop .inv .3)) in omega (arith, p, c .parcel-at .ensures) }
+cast-room c =
+    record { fits = let p = narrow _ _ (line-right _ _ _ _ (omega arith) (omega arith) (c .before .before .loop .inv .3)) in omega (arith, p, c .parcel-at .ensures) }
 
 mul-room : tie.Need-mul-room Inv-loop μ-loop
 mul-room c = omega arith
@@ -41,7 +47,15 @@ loop-less : tie.Need-loop-less Inv-loop μ-loop
 loop-less c = omega arith
 
 loop-again : tie.Need-loop-again Inv-loop μ-loop
-loop-again c = let here : c .before .before .loop .at < length (c .before .before .before .before .before .args .text .now) = omega arith in (omega arith, omega arith, simp length-set (c .before .before .loop .inv .2), sym (line-good _ _ _ _ here (omega arith) (line-right _ _ _ _ here (omega arith) (c .before .before .loop .inv .3))) ∙ c .before .before .loop .inv .3, c .before .before .loop .inv .4 ∙ store-next _ _ _ _ _ _ (c .before .loop-test .taken) (c .parcel-at .ensures))
+loop-again c =
+    let here : c .before .before .loop .at < length (c .before .before .before .before .before .args .text .now) = omega arith in (
+      omega arith,
+      omega arith,
+      simp length-set (c .before .before .loop .inv .2),
+      sym (line-good _ _ _ _ here (omega arith) (line-right _ _ _ _ here (omega arith) (c .before .before .loop .inv .3)))
+          ∙ c .before .before .loop .inv .3,
+      c .before .before .loop .inv .4 ∙ store-next _ _ _ _ _ _ (c .before .loop-test .taken) (c .parcel-at .ensures),
+    )
 
 same-length : tie.Need-same-length Inv-loop μ-loop
 same-length c = c .before .loop .inv .2
