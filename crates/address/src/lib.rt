@@ -1,130 +1,114 @@
 // The address instructions 020 to 032: one function for each first three digits. A result goes to Ai, but of 025 to Bjk.
 ghost use mathlib.Core.Path.{_≡_};
-ghost use mathlib.Core.List.{List};
-ghost use Prim.Native.Nat.{ℕ};
-ghost use lib.Dec.{eqb};
+ghost use Prim.Native.Nat.{_/_};
 ghost use lib.ListN.{length};
-ghost use Rattle.machine.specs.declared.Frame.{Frame};
 ghost use Rattle.machine.specs.Word.{pick};
-ghost use Rattle.machine.specs.Parcel.{jOf, kOf};
-ghost use Rattle.machine.specs.Act.{ConstantA, ComplementA, ShortA, AFromB, BFromA, AZeros, SumA, DifferenceA, ProductA};
-ghost use Rattle.machine.specs.Codes.{One, Two, only, code023, code026};
-ghost use Rattle.machine.specs.Work.{done, execute};
-ghost use Rattle.access.specs.Layout.{registers, Reaches, Inside};
+ghost use Rattle.machine.specs.Layout.{frameOf};
+ghost use Rattle.access.specs.Window.{Reaches};
+ghost use Rattle.access.specs.Executed.{Executes, Alone};
 use machine::Fetched;
 use machine::ParcelAddr;
 use machine::Reach;
 use machine::Work;
 
-// 020ijkm: jkm.
-pub fn constant(a: &mut [u64; 8], mem: &[u64], f: Reach, p: ParcelAddr, x: u64) -> Work
-    requires { ⌜ Inside f (length (now mem)) ⌝ }
-    ensures { λ w. ⌜ ((fr : Frame) (s b t v k : List ℕ) → Reaches fr f (length (now (mem .entry))) → done w (registers (now (a .exit)) s b t v k) (now (mem .entry)) ≡ execute fr (registers (now (a .entry)) s b t v k) (p .0) (now (mem .entry)) (Two ConstantA) x) ⌝ }
-{
-    enter(a, mem, f, p, x, false)
-}
-
-// 021ijkm: the complement of jkm.
-pub fn complement(a: &mut [u64; 8], mem: &[u64], f: Reach, p: ParcelAddr, x: u64) -> Work
-    requires { ⌜ Inside f (length (now mem)) ⌝ }
-    ensures { λ w. ⌜ ((fr : Frame) (s b t v k : List ℕ) → Reaches fr f (length (now (mem .entry))) → done w (registers (now (a .exit)) s b t v k) (now (mem .entry)) ≡ execute fr (registers (now (a .entry)) s b t v k) (p .0) (now (mem .entry)) (Two ComplementA) x) ⌝ }
-{
-    enter(a, mem, f, p, x, true)
-}
-
-// 020 and 021, which have a second parcel m: jkm, or its complement in 24 bits.
-fn enter(a: &mut [u64; 8], mem: &[u64], f: Reach, p: ParcelAddr, x: u64, complemented: bool) -> Work
-    requires { ⌜ Inside f (length (now mem)) ⌝ }
-    ensures { λ w. ⌜ ((fr : Frame) (s b t v k : List ℕ) → Reaches fr f (length (now (mem .entry))) → done w (registers (now (a .exit)) s b t v k) (now (mem .entry)) ≡ execute fr (registers (now (a .entry)) s b t v k) (p .0) (now (mem .entry)) (Two (pick complemented ComplementA ConstantA)) x) ⌝ }
+// 020ijkm: jkm. 021ijkm: its complement in 24 bits.
+pub fn enter(r: &mut [u64], mem: &[u64], f: Reach, p: ParcelAddr, x: u64, complement: bool) -> Work
+    requires { ⌜ (length (now r) ≡ 672) × (x / 512 ≡ pick complement 0o021 0o020) ⌝ }
+    requires { ⌜ Reaches (frameOf (now r)) f (length (now mem)) ⌝ }
+    ensures { λ w. ⌜ Executes w (now (r .entry)) (now (r .exit)) (now (mem .entry)) (now (mem .entry)) (p .0) x ⌝ }
 {
     let Fetched::Parcel(m) = access::fetch(mem, f, access::on(p, 1)) else {
-        return access::no_parcel(f);
+        return access::no_parcel(r);
     };
-    let n = access::jkm(x, m);
-    let to = access::i(x);
-    a[to] = if complemented { 16777215 - n } else { n };
-    access::past(p, 2)
+    let y = word::either_24(access::jkm(x, m), complement);
+    access::set_a(r, access::i(x), y);
+    Work::PastTwo
 }
 
 // 022ijk: jk.
-pub fn short(a: &mut [u64; 8], p: ParcelAddr, x: u64) -> Work
-    ensures { λ w. ⌜ ((fr : Frame) (s b t v k mem : List ℕ) → done w (registers (now (a .exit)) s b t v k) mem ≡ execute fr (registers (now (a .entry)) s b t v k) (p .0) mem (One ShortA) x) ⌝ }
+pub fn short(r: &mut [u64], x: u64) -> Work
+    requires { ⌜ (length (now r) ≡ 672) × (x / 512 ≡ 0o022) ⌝ }
+    ensures { λ w. ⌜ Alone w (now (r .entry)) (now (r .exit)) x ⌝ }
 {
-    access::put(a, p, x, x % 64)
+    access::put_a(r, x, x % 64)
 }
 
 // 023ij0: the low 24 bits of Sj. 023i01: VL.
-pub fn from_s_or_vl(a: &mut [u64; 8], s: &[u64; 8], k: &[u64; 5], p: ParcelAddr, x: u64) -> Work
-    ensures { λ w. ⌜ ((fr : Frame) (b t v mem : List ℕ) → done w (registers (now (a .exit)) (now (s .entry)) b t v (now (k .entry))) mem ≡ execute fr (registers (now (a .entry)) (now (s .entry)) b t v (now (k .entry))) (p .0) mem (code023 (jOf x) (kOf x)) x) ⌝ }
+pub fn from_s_or_vl(r: &mut [u64], x: u64) -> Work
+    requires { ⌜ (length (now r) ≡ 672) × (x / 512 ≡ 0o023) ⌝ }
+    ensures { λ w. ⌜ Alone w (now (r .entry)) (now (r .exit)) x ⌝ }
 {
     let last = access::k(x);
     if last == 0 {
-        return access::put(a, p, x, access::at_j(s, x) % 16777216);
+        return access::put_a(r, x, access::s_j(r, x) % 16777216);
     }
     if access::j(x) == 0 && last == 1 {
-        return access::put(a, p, x, k[access::VL]);
+        return access::put_a(r, x, access::vl(r) as u64);
     }
-    Work::Unheld
+    Work::NotHeld
 }
 
 // 024ijk: Bjk.
-pub fn from_b(a: &mut [u64; 8], b: &[u64; 64], p: ParcelAddr, x: u64) -> Work
-    ensures { λ w. ⌜ ((fr : Frame) (s t v k mem : List ℕ) → done w (registers (now (a .exit)) s (now (b .entry)) t v k) mem ≡ execute fr (registers (now (a .entry)) s (now (b .entry)) t v k) (p .0) mem (One AFromB) x) ⌝ }
+pub fn from_b(r: &mut [u64], x: u64) -> Work
+    requires { ⌜ (length (now r) ≡ 672) × (x / 512 ≡ 0o024) ⌝ }
+    ensures { λ w. ⌜ Alone w (now (r .entry)) (now (r .exit)) x ⌝ }
 {
-    access::put(a, p, x, b[access::jk(x)])
+    access::put_a(r, x, access::b_jk(r, x))
 }
 
 // 025ijk: Ai to Bjk.
-pub fn to_b(a: &[u64; 8], b: &mut [u64; 64], p: ParcelAddr, x: u64) -> Work
-    ensures { λ w. ⌜ ((fr : Frame) (s t v k mem : List ℕ) → done w (registers (now (a .entry)) s (now (b .exit)) t v k) mem ≡ execute fr (registers (now (a .entry)) s (now (b .entry)) t v k) (p .0) mem (One BFromA) x) ⌝ }
+pub fn to_b(r: &mut [u64], x: u64) -> Work
+    requires { ⌜ (length (now r) ≡ 672) × (x / 512 ≡ 0o025) ⌝ }
+    ensures { λ w. ⌜ Alone w (now (r .entry)) (now (r .exit)) x ⌝ }
 {
-    let to = access::jk(x);
-    b[to] = access::at_i(a, x);
-    access::past(p, 1)
+    access::set_b(r, access::jk(x), access::a_i(r, x));
+    Work::PastOne
 }
 
 // 026ij0: the number of ones in Sj. 026ij1: that number modulo 2.
-pub fn ones(a: &mut [u64; 8], s: &[u64; 8], p: ParcelAddr, x: u64) -> Work
-    ensures { λ w. ⌜ ((fr : Frame) (b t v k mem : List ℕ) → done w (registers (now (a .exit)) (now (s .entry)) b t v k) mem ≡ execute fr (registers (now (a .entry)) (now (s .entry)) b t v k) (p .0) mem (code026 (kOf x)) x) ⌝ }
+pub fn ones(r: &mut [u64], x: u64) -> Work
+    requires { ⌜ (length (now r) ≡ 672) × (x / 512 ≡ 0o026) ⌝ }
+    ensures { λ w. ⌜ Alone w (now (r .entry)) (now (r .exit)) x ⌝ }
 {
     match access::k(x) {
-        0 => access::put(a, p, x, word::count_ones(access::at_j(s, x))),
-        1 => access::put(a, p, x, word::odd_ones(access::at_j(s, x))),
-        _ => Work::Unheld,
+        0 => access::put_a(r, x, word::count_ones(access::s_j(r, x))),
+        1 => access::put_a(r, x, word::odd_ones(access::s_j(r, x))),
+        _ => Work::NotHeld,
     }
 }
 
 // 027ij0: the number of zeros before the first one in Sj.
-pub fn zeros(a: &mut [u64; 8], s: &[u64; 8], p: ParcelAddr, x: u64) -> Work
-    ensures { λ w. ⌜ ((fr : Frame) (b t v k mem : List ℕ) → done w (registers (now (a .exit)) (now (s .entry)) b t v k) mem ≡ execute fr (registers (now (a .entry)) (now (s .entry)) b t v k) (p .0) mem (only (eqb (kOf x) 0) (One AZeros)) x) ⌝ }
+pub fn zeros(r: &mut [u64], x: u64) -> Work
+    requires { ⌜ (length (now r) ≡ 672) × (x / 512 ≡ 0o027) ⌝ }
+    ensures { λ w. ⌜ Alone w (now (r .entry)) (now (r .exit)) x ⌝ }
 {
     if access::k(x) == 0 {
-        access::put(a, p, x, word::count_zeros(access::at_j(s, x)))
+        access::put_a(r, x, word::count_zeros(access::s_j(r, x)))
     } else {
-        Work::Unheld
+        Work::NotHeld
     }
 }
 
 // 030ijk: Aj and Ak added.
-pub fn sum(a: &mut [u64; 8], p: ParcelAddr, x: u64) -> Work
-    ensures { λ w. ⌜ ((fr : Frame) (s b t v k mem : List ℕ) → done w (registers (now (a .exit)) s b t v k) mem ≡ execute fr (registers (now (a .entry)) s b t v k) (p .0) mem (One SumA) x) ⌝ }
+pub fn sum(r: &mut [u64], x: u64) -> Work
+    requires { ⌜ (length (now r) ≡ 672) × (x / 512 ≡ 0o030) ⌝ }
+    ensures { λ w. ⌜ Alone w (now (r .entry)) (now (r .exit)) x ⌝ }
 {
-    let y = word::sum_24(access::at_j(a, x), access::a_k(a, x));
-    access::put(a, p, x, y)
+    access::put_a(r, x, word::sum_24(access::a_j(r, x), access::a_k(r, x)))
 }
 
 // 031ijk: Aj less Ak.
-pub fn difference(a: &mut [u64; 8], p: ParcelAddr, x: u64) -> Work
-    ensures { λ w. ⌜ ((fr : Frame) (s b t v k mem : List ℕ) → done w (registers (now (a .exit)) s b t v k) mem ≡ execute fr (registers (now (a .entry)) s b t v k) (p .0) mem (One DifferenceA) x) ⌝ }
+pub fn difference(r: &mut [u64], x: u64) -> Work
+    requires { ⌜ (length (now r) ≡ 672) × (x / 512 ≡ 0o031) ⌝ }
+    ensures { λ w. ⌜ Alone w (now (r .entry)) (now (r .exit)) x ⌝ }
 {
-    let y = word::difference_24(access::at_j(a, x), access::a_k(a, x));
-    access::put(a, p, x, y)
+    access::put_a(r, x, word::difference_24(access::a_j(r, x), access::a_k(r, x)))
 }
 
 // 032ijk: Aj times Ak.
-pub fn product(a: &mut [u64; 8], p: ParcelAddr, x: u64) -> Work
-    ensures { λ w. ⌜ ((fr : Frame) (s b t v k mem : List ℕ) → done w (registers (now (a .exit)) s b t v k) mem ≡ execute fr (registers (now (a .entry)) s b t v k) (p .0) mem (One ProductA) x) ⌝ }
+pub fn product(r: &mut [u64], x: u64) -> Work
+    requires { ⌜ (length (now r) ≡ 672) × (x / 512 ≡ 0o032) ⌝ }
+    ensures { λ w. ⌜ Alone w (now (r .entry)) (now (r .exit)) x ⌝ }
 {
-    let y = word::product_24(access::at_j(a, x), access::a_k(a, x));
-    access::put(a, p, x, y)
+    access::put_a(r, x, word::product_24(access::a_j(r, x), access::a_k(r, x)))
 }

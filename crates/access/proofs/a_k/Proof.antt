@@ -1,22 +1,12 @@
-use borrow.Author.Tests.{ne-eqb}
+use native.Mathlib.Omega.{arith}
+use Rattle.machine.specs.Parcel.{kOf}
+use Rattle.access.proofs.Places.{a-at}
 use borrow.Author.Needs.{needs}
 use Rattle.access.proofs.a_k.Statement.{statement}
 use Rattle.access.proofs.a_k.Tie as tie
 
-k-requires : tie.Need-k-requires
-k-requires c κs = search needs
-
-mul-result : tie.Need-mul-result
-mul-result c = search needs
-
-element-copy-out-result : tie.Need-element-copy-out-result
-element-copy-out-result c = search needs
-
 returns : tie.Need-returns
-returns c = rw (← c .before .k .ensures, c .if1 .taken)
-
-returns-2 : tie.Need-returns-2
-returns-2 c = rw (← c .before .before .k .ensures) (simp (ne-eqb _ _ (c .before .if1 .left)))
+returns c = rw (c .operand .ensures, c .before .k .ensures, a-at (c .before .before .before .args .r .now) (kOf (c .before .before .before .args .x)) (omega arith))
 
 pub a-k-spec : {M : Type 1} → statement M
-a-k-spec = tie.close (tie.spec k-requires mul-result element-copy-out-result returns returns-2)
+a-k-spec = tie.close (tie.spec (λ c κs. search needs) (λ c κs. search needs) returns)

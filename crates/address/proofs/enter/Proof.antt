@@ -1,73 +1,31 @@
-use mathlib.Core.Logic.{⊎-elim}
-use Rattle.machine.specs.State.{apply}
-use Rattle.machine.specs.Act.{act}
-use Rattle.machine.specs.Work.{perform, execute}
 use native.Mathlib.Omega.{arith}
+use mathlib.Core.Path.{refl}
+use Rattle.access.proofs.Windows.{code-inside, second, second-narrow}
+use Rattle.access.proofs.Leaf.{puts-two, lost}
+use Rattle.address.proofs.Entered.{entering, entered-code, entered-act}
 use borrow.Author.Needs.{needs}
-use Rattle.access.proofs.Laws.{second}
 use Rattle.address.proofs.enter.Statement.{statement}
 use Rattle.address.proofs.enter.Tie as tie
 
-on-requires : tie.Need-on-requires
-on-requires c κs = search needs
-
 fetch-requires : tie.Need-fetch-requires
-fetch-requires c κs = search needs
-
-enum-known-m : tie.Need-enum-known-m
-enum-known-m c = search needs
-
-enum-told : tie.Need-enum-told
-enum-told c = search needs
-
-no-parcel-requires : tie.Need-no-parcel-requires
-no-parcel-requires c κs = search needs
+fetch-requires c κs = code-inside _ _ _ (c .before .before .before .pre .1)
 
 returns : tie.Need-returns
-unfolding execute
-returns c = λ fr s b t v k h.
-    let e = second fr _ _ _ _ (c .before .before .before .before .on .ensures) (c .before .before .before .fetch .ensures .0 fr h) in
-    rw (e, c .before .enum-told .given .1, c .no-parcel .ensures, h .user)
+returns c = lost _ _ _ _ _ (entering (c .before .before .before .before .before .before .before .before .args .complement)) (entered-code (c .before .before .before .before .before .before .before .before .args .complement) _ _ (c .before .before .before .before .before .before .before .before .pre .0 .1))
+    (second _ _ _ _ _ (c .before .before .before .before .before .on .ensures) (c .before .before .before .before .fetch .ensures) _ _ (c .before .before .before .before .before .before .before .before .pre .1) (c .before .before .enum-told .given .1)) (c .no-parcel .ensures)
 
 jkm-requires : tie.Need-jkm-requires
-jkm-requires c κs = c .before .before .before .fetch .ensures .1 _ (c .before .m .given .1)
+jkm-requires c κs = second-narrow _ _ _ _ _ (c .before .before .before .before .on .ensures) (c .before .before .before .fetch .ensures) _ (c .before .m .given .1)
 
-i-requires : tie.Need-i-requires
-i-requires c κs = search needs
-
-sub-a : tie.Need-sub-a
-sub-a c = omega (arith, c .before .before .before .before .before .before .fetch .ensures .1 _ (c .before .before .before .before .m .given .1))
-
-mul-a : tie.Need-mul-a
-mul-a c = search needs
-
-element-write-a : tie.Need-element-write-a
-element-write-a c = search needs
-
-past-requires : tie.Need-past-requires
-past-requires c κs = search needs
+either-24-requires : tie.Need-either-24-requires
+either-24-requires c κs = omega (arith, c .jkm .ensures, second-narrow _ _ _ _ _ (c .before .before .before .before .before .on .ensures) (c .before .before .before .before .fetch .ensures) _ (c .before .before .m .given .1))
 
 returns-2 : tie.Need-returns-2
-unfolding execute perform act apply
-returns-2 c = λ fr s b t v k h.
-    let e = second fr _ _ _ _ (c .before .before .before .before .before .before .before .before .on .ensures) (c .before .before .before .before .before .before .before .fetch .ensures .0 fr h) in
-    rw (e, c .before .before .before .before .before .m .given .1, c .past .ensures, c .before .before .i .ensures)
-    (⊎-elim (λ w. rw (w .0 .taken, w .1, c .before .before .before .jkm .ensures)) (λ w. rw (w .0 .left, w .1, c .before .before .before .jkm .ensures)) (c .before .if1 .came))
+returns-2 c = puts-two (entering (c .before .before .before .before .before .before .before .before .before .before .before .before .before .before .args .complement)) _ _ _ _ _ _ _ _ refl (c .before .before .set-a .ensures) (entered-code (c .before .before .before .before .before .before .before .before .before .before .before .before .before .before .args .complement) _ _ (c .before .before .before .before .before .before .before .before .before .before .before .before .before .before .pre .0 .1))
+    (second _ _ _ _ _ (c .before .before .before .before .before .before .before .before .before .before .before .on .ensures) (c .before .before .before .before .before .before .before .before .before .before .fetch .ensures) _ _ (c .before .before .before .before .before .before .before .before .before .before .before .before .before .before .pre .1) (c .before .before .before .before .before .before .before .before .m .given .1)) (rw (c .before .before .before .i .ensures, c .before .before .before .before .before .either-24 .ensures, c .before .before .before .before .before .before .jkm .ensures) (entered-act (c .before .before .before .before .before .before .before .before .before .before .before .before .before .before .args .complement) _ _ _ _ _))
 
 pub enter-spec : {M : Type 1} → statement M
 enter-spec =
-    tie.close
-    (tie.spec
-    on-requires
-    fetch-requires
-    enum-known-m
-    enum-told
-    no-parcel-requires
-    returns
-    jkm-requires
-    i-requires
-    sub-a
-    mul-a
-    element-write-a
-    past-requires
-    returns-2)
+    tie.close (tie.spec (λ c κs. search needs) fetch-requires (λ c. search needs) (λ c. search needs)
+    (λ c κs. search needs) (λ c. search needs) returns jkm-requires either-24-requires (λ c κs. search needs)
+    (λ c κs. search needs) (λ c. search needs) returns-2)

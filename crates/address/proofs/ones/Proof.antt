@@ -1,59 +1,29 @@
-use Prim.Native.Nat.{_≤_}
 use native.Mathlib.Omega.{arith}
+use Prim.Native.Nat.{_≤_}
 use lib.ListN.{List·getD-eq-default}
-use Rattle.machine.specs.State.{apply}
-use Rattle.machine.specs.Act.{act}
-use Rattle.machine.specs.Work.{perform, execute}
+use Rattle.machine.specs.Act.{AOnes, AParity, act}
+use Rattle.machine.specs.Codes.{codeOf}
+use Rattle.access.proofs.Leaf.{puts, unheld}
 use borrow.Author.Needs.{needs}
 use Rattle.address.proofs.ones.Statement.{statement}
 use Rattle.address.proofs.ones.Tie as tie
 
-k-requires : tie.Need-k-requires
-k-requires c κs = search needs
-
-at-j-requires : tie.Need-at-j-requires
-at-j-requires c κs = search needs
-
-count-ones-requires : tie.Need-count-ones-requires
-count-ones-requires c κs = search needs
-
-put-requires : tie.Need-put-requires
-put-requires c κs = search needs
-
-at-j-requires-2 : tie.Need-at-j-requires-2
-at-j-requires-2 c κs = search needs
-
-odd-ones-requires : tie.Need-odd-ones-requires
-odd-ones-requires c κs = search needs
-
-put-requires-2 : tie.Need-put-requires-2
-put-requires-2 c κs = search needs
-
 returns : tie.Need-returns
-unfolding execute perform act apply
-returns c = λ fr b t v k mem. rw (c .put .ensures .0, c .put .ensures .1, c .before .count-ones .ensures, c .before .before .at-j .ensures, ← c .before .before .before .before .before .k .ensures, c .before .before .before .before .match .keys1)
+unfolding codeOf act
+returns c = λ p mem. puts AOnes _ _ _ _ mem p _ (c .before .before .put-a .ensures) (rw (c .before .before .before .before .before .before .before .before .before .before .pre .1, ← c .before .before .before .before .before .before .before .before .k .ensures, c .before .before .before .before .before .before .before .match .keys1)) (rw (c .before .before .before .count-ones .ensures, c .before .before .before .before .s-j .ensures))
 
 returns-2 : tie.Need-returns-2
-unfolding execute perform act apply
-returns-2 c = λ fr b t v k mem. rw (c .put2 .ensures .0, c .put2 .ensures .1, c .before .odd-ones .ensures, c .before .before .at-j2 .ensures, ← c .before .before .before .before .before .k .ensures, c .before .before .before .before .match .keys2)
+unfolding codeOf act
+returns-2 c = λ p mem. puts AParity _ _ _ _ mem p _ (c .before .before .put-a2 .ensures) (rw (c .before .before .before .before .before .before .before .before .before .before .pre .1, ← c .before .before .before .before .before .before .before .before .k .ensures, c .before .before .before .before .before .before .before .match .keys2)) (rw (c .before .before .before .odd-ones .ensures, c .before .before .before .before .s-j2 .ensures))
 
 returns-3 : tie.Need-returns-3
-unfolding execute
-returns-3 c = λ fr b t v k mem.
+unfolding codeOf
+returns-3 c = λ p mem.
     let h : 2 ≤ c .before .k .result = omega (arith, c .match .rest) in
-    rw (← c .before .k .ensures, List·getD-eq-default _ _ h)
+    unheld _ mem p _ (rw (c .before .before .before .pre .1, ← c .before .k .ensures, List·getD-eq-default _ _ h))
 
 pub ones-spec : {M : Type 1} → statement M
 ones-spec =
-    tie.close
-    (tie.spec
-    k-requires
-    at-j-requires
-    count-ones-requires
-    put-requires
-    at-j-requires-2
-    odd-ones-requires
-    put-requires-2
-    returns
-    returns-2
-    returns-3)
+    tie.close (tie.spec (λ c κs. search needs) (λ c κs. search needs) (λ c κs. search needs) (λ c κs. search needs)
+    (λ c κs. search needs) (λ c κs. search needs) (λ c κs. search needs) (λ c. search needs) returns
+    (λ c. search needs) returns-2 returns-3)

@@ -1,16 +1,14 @@
-use Rattle.machine.specs.State.{apply}
-use Rattle.machine.specs.Act.{act}
-use Rattle.machine.specs.Work.{perform, execute}
+use mathlib.Core.Path.{refl}
+use Rattle.machine.specs.Act.{ShortA, act}
+use Rattle.machine.specs.Codes.{codeOf}
+use Rattle.access.proofs.Leaf.{puts}
 use borrow.Author.Needs.{needs}
 use Rattle.address.proofs.short.Statement.{statement}
 use Rattle.address.proofs.short.Tie as tie
 
-put-requires : tie.Need-put-requires
-put-requires c κs = search needs
-
 returns : tie.Need-returns
-unfolding execute perform act apply
-returns c = λ fr s b t v k mem. rw (c .put .ensures .0, c .put .ensures .1)
+unfolding codeOf act
+returns c = λ p mem. puts ShortA _ _ _ _ mem p _ (c .before .before .put-a .ensures) (rw (c .before .before .before .before .before .pre .1)) refl
 
 pub short-spec : {M : Type 1} → statement M
-short-spec = tie.close (tie.spec put-requires returns)
+short-spec = tie.close (tie.spec (λ c κs. search needs) (λ c. search needs) returns)

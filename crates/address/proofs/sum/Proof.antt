@@ -1,25 +1,15 @@
-use Rattle.machine.specs.State.{apply}
-use Rattle.machine.specs.Act.{act}
-use Rattle.machine.specs.Work.{perform, execute}
+use Rattle.machine.specs.Act.{SumA, act}
+use Rattle.machine.specs.Codes.{codeOf}
+use Rattle.access.proofs.Leaf.{puts}
 use borrow.Author.Needs.{needs}
 use Rattle.address.proofs.sum.Statement.{statement}
 use Rattle.address.proofs.sum.Tie as tie
 
-at-j-requires : tie.Need-at-j-requires
-at-j-requires c κs = search needs
-
-a-k-requires : tie.Need-a-k-requires
-a-k-requires c κs = search needs
-
-sum-24-requires : tie.Need-sum-24-requires
-sum-24-requires c κs = search needs
-
-put-requires : tie.Need-put-requires
-put-requires c κs = search needs
-
 returns : tie.Need-returns
-unfolding execute perform act apply
-returns c = λ fr s b t v k mem. rw (c .put .ensures .0, c .put .ensures .1, c .before .before .sum-24 .ensures, c .before .before .before .before .before .at-j .ensures, c .before .before .before .a-k .ensures)
+unfolding codeOf act
+returns c = λ p mem. puts SumA _ _ _ _ mem p _ (c .before .before .put-a .ensures) (rw (c .before .before .before .before .before .before .before .before .before .before .pre .1)) (rw (c .before .before .before .sum-24 .ensures, c .before .before .before .before .before .before .a-j .ensures, c .before .before .before .before .a-k .ensures))
 
 pub sum-spec : {M : Type 1} → statement M
-sum-spec = tie.close (tie.spec at-j-requires a-k-requires sum-24-requires put-requires returns)
+sum-spec =
+    tie.close (tie.spec (λ c κs. search needs) (λ c κs. search needs) (λ c κs. search needs) (λ c κs. search needs)
+    (λ c. search needs) returns)

@@ -1,0 +1,76 @@
+-- From what an instruction's function wrote to what the definitions say of its code. Assumes nothing.
+use Prim.Native.Nat.{ℕ, _%_, _^_}
+use mathlib.Core.Path.{_≡_, refl, sym, _∙_, ap}
+use mathlib.Core.List.{List}
+use Rattle.machine.specs.declared.ParcelAddr.{ParcelAddr}
+use Rattle.machine.specs.declared.Fetched.{Fetched}
+use Rattle.machine.specs.declared.Fetched.the-variants.{Parcel, Outside}
+use Rattle.machine.specs.declared.Work.{Work}
+use Rattle.machine.specs.declared.Work.the-variants.{PastOne, To, NotHeld}
+use Rattle.machine.specs.Parcel.{onward}
+use Rattle.machine.specs.State.{Registers, sharing, addr, user, Put, Nothing, apply}
+use Rattle.machine.specs.Memory.{fetchOf}
+use Rattle.machine.specs.Act.{Instr, Act, Does, Goes, act}
+use Rattle.machine.specs.Codes.{Code, None, One, Two, codeOf}
+use Rattle.machine.specs.Work.{past, noParcel, done, decoded, statusOf, perform, doneWith}
+use Rattle.machine.specs.Layout.{registersOf, frameOf}
+use Rattle.access.specs.Executed.{Executes, Puts}
+
+-- the act of an instruction at p, of so many parcels
+abbrev pub actAt : List ℕ → ℕ → ℕ → ℕ → ℕ → Instr → Act
+actAt r p x m parcels n = act (registersOf r) (statusOf (frameOf r) (registersOf r)) x m (onward p parcels) n
+
+module _ (w : Work) (r r′ mem mem′ : List ℕ) (p x : ℕ) where
+  -- what was done with what stands there
+  executes : (c : Code) → codeOf (user (frameOf r)) x ≡ c → frameOf r′ ≡ frameOf r
+      → done w (registersOf r′) (sharing mem′) ≡ doneWith (frameOf r) (registersOf r) p (sharing mem) (decoded (frameOf r) mem p x c)
+      → Executes w r r′ mem mem′ p x
+  executes c e f d = record { frame = f; done = rw e d }
+
+  -- one parcel, of which the act does all
+  pub one : (n : Instr) → codeOf (user (frameOf r)) x ≡ One n → frameOf r′ ≡ frameOf r
+      → done w (registersOf r′) (sharing mem′) ≡ perform (frameOf r) (registersOf r) 1 (sharing mem) (actAt r p x 0 1 n)
+      → Executes w r r′ mem mem′ p x
+  unfolding decoded doneWith
+  one n e f d = executes (One n) e f d
+
+  -- two parcels, of which the second was fetched
+  pub two : (n : Instr) (m : ℕ) → codeOf (user (frameOf r)) x ≡ Two n → fetchOf (frameOf r) mem (onward p 1) ≡ Parcel m → frameOf r′ ≡ frameOf r
+      → done w (registersOf r′) (sharing mem′) ≡ perform (frameOf r) (registersOf r) 2 (sharing mem) (actAt r p x m 2 n)
+      → Executes w r r′ mem mem′ p x
+  unfolding decoded doneWith
+  two n m e g f d = executes (Two n) e f (rw g d)
+
+-- a parcel that is not held
+pub unheld : (r mem : List ℕ) (p x : ℕ) → codeOf (user (frameOf r)) x ≡ None → Executes NotHeld r r mem mem p x
+unfolding decoded doneWith
+unheld r mem p x e = executes NotHeld r r mem mem p x None e refl refl
+
+-- a second parcel that lies outside
+pub lost : (w : Work) (r mem : List ℕ) (p x : ℕ) (n : Instr) → codeOf (user (frameOf r)) x ≡ Two n → fetchOf (frameOf r) mem (onward p 1) ≡ Outside
+    → w ≡ noParcel (user (frameOf r)) → Executes w r r mem mem p x
+unfolding decoded doneWith
+lost w r mem p x n e g h = executes w r r mem mem p x (Two n) e refl (rw (g, h))
+
+-- one parcel, and a register written
+pub puts : (n : Instr) (u : Put) (w : Work) (r r′ mem : List ℕ) (p x : ℕ) → (w ≡ PastOne) × Puts r r′ u → codeOf (user (frameOf r)) x ≡ One n → actAt r p x 0 1 n ≡ Does u
+    → Executes w r r′ mem mem p x
+unfolding perform
+puts n u w r r′ mem p x h e a = one w r r′ mem mem p x n e (h .1 .frame) (rw (a, h .0, h .1 .registers))
+
+-- two parcels, and a register written
+pub puts-two : (n : Instr) (u : Put) (w : Work) (r r′ mem : List ℕ) (p x m : ℕ) → w ≡ past 2 → Puts r r′ u → codeOf (user (frameOf r)) x ≡ Two n
+    → fetchOf (frameOf r) mem (onward p 1) ≡ Parcel m → actAt r p x m 2 n ≡ Does u → Executes w r r′ mem mem p x
+unfolding perform
+puts-two n u w r r′ mem p x m h k e g a = two w r r′ mem mem p x n m e g (k .frame) (rw (a, h, k .registers))
+
+-- two parcels, P going to q
+pub goes-two : (n : Instr) (u : Put) (q : ℕ) (w : Work) (r r′ mem : List ℕ) (p x m : ℕ) → w ≡ To (addr (q % 2 ^ 24)) → Puts r r′ u → codeOf (user (frameOf r)) x ≡ Two n
+    → fetchOf (frameOf r) mem (onward p 1) ≡ Parcel m → actAt r p x m 2 n ≡ Goes q u → Executes w r r′ mem mem p x
+unfolding perform
+goes-two n u q w r r′ mem p x m h k e g a = two w r r′ mem mem p x n m e g (k .frame) (rw (a, h, k .registers))
+
+-- nothing was written
+pub puts-nothing : (r : List ℕ) → Puts r r Nothing
+unfolding apply
+puts-nothing r = record { frame = refl; registers = refl }

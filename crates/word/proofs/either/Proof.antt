@@ -1,0 +1,11 @@
+use Rattle.word.proofs.either.Statement.{statement}
+use Rattle.word.proofs.either.Tie as tie
+
+returns : tie.Need-returns
+returns c = rw (c .if1 .taken)
+
+returns-2 : tie.Need-returns-2
+returns-2 c = rw (c .if1 .left)
+
+pub either-spec : {M : Type 1} → statement M
+either-spec = tie.close (tie.spec returns returns-2)
