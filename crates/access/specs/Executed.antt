@@ -45,7 +45,7 @@ unfoldable pub ringAt : ℕ → ℕ → (ℕ → ℕ) → ℕ → List ℕ → L
 ringAt at first f zero w = w
 ringAt at first f (suc n) w = set (ringAt at first f n w) (at + (first + n) % 64) (f n)
 
--- the widths of what only an exchange changes, and of XA, VL, IOR and BDM
+-- the widths of what only an exchange changes, but for the processor's number; and of XA, VL, IOR and BDM
 pub record FrameOk (fr : Frame) : Type 0 where
   pub iba : fr .iba < 2 ^ 17
   pub ila : fr .ila < 2 ^ 17
@@ -56,7 +56,6 @@ pub record FrameOk (fr : Frame) : Type 0 where
   pub fps : fr .fps < 2
   pub ps : fr .ps < 2
   pub cln : fr .cln < 4
-  pub processor : fr .processor < 2
 
 pub record ControlOk (r : Registers) : Type 0 where
   pub narrow : r .xa < 2 ^ 8
