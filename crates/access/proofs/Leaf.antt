@@ -1,12 +1,14 @@
 -- From what an instruction's function wrote to what the definitions say of its code. Assumes nothing.
-use Prim.Native.Nat.{ℕ, _%_, _^_}
+use Prim.Native.Nat.{ℕ, _/_, _%_, _^_}
 use mathlib.Core.Path.{_≡_, refl, sym, _∙_, ap}
 use mathlib.Core.List.{List}
+use mathlib.Core.Bool.{Bool, true, false}
 use Rattle.machine.specs.declared.ParcelAddr.{ParcelAddr}
 use Rattle.machine.specs.declared.Fetched.{Fetched}
 use Rattle.machine.specs.declared.Fetched.the-variants.{Parcel, Outside}
 use Rattle.machine.specs.declared.Work.{Work}
 use Rattle.machine.specs.declared.Work.the-variants.{PastOne, To, NotHeld}
+use Rattle.machine.specs.Word.{pick}
 use Rattle.machine.specs.Parcel.{onward}
 use Rattle.machine.specs.State.{Registers, sharing, addr, user, Put, Nothing, apply}
 use Rattle.machine.specs.Memory.{fetchOf}
@@ -74,3 +76,20 @@ goes-two n u q w r r′ mem p x m h k e g a = two w r r′ mem mem p x n m e g (
 pub puts-nothing : (r : List ℕ) → Puts r r Nothing
 unfolding apply
 puts-nothing r = record { frame = refl; registers = refl }
+
+-- two instructions of two parcels that one function does, by a bit: n′ where it is set, with the code o′; else n, with o
+module _ (b : Bool) (n n′ : Instr) where
+  pub either-code : (u : Bool) (x o o′ : ℕ) → (x / 512 ≡ o → codeOf u x ≡ Two n) → (x / 512 ≡ o′ → codeOf u x ≡ Two n′) → x / 512 ≡ pick b o′ o
+      → codeOf u x ≡ Two (pick b n′ n)
+  either-code u x o o′ f f′ e = go b e
+    where
+      go : (b : Bool) → x / 512 ≡ pick b o′ o → codeOf u x ≡ Two (pick b n′ n)
+      go true e = f′ e
+      go false e = f e
+
+  pub either-act : (f : Instr → Act) (put : ℕ → Put) (y y′ : ℕ) → f n ≡ Does (put y) → f n′ ≡ Does (put y′) → f (pick b n′ n) ≡ Does (put (pick b y′ y))
+  either-act f put y y′ e e′ = go b
+    where
+      go : (b : Bool) → f (pick b n′ n) ≡ Does (put (pick b y′ y))
+      go true = e′
+      go false = e

@@ -4,72 +4,59 @@ pub mod shift;
 pub mod transmit;
 
 ghost use mathlib.Core.Path.{_≡_};
-ghost use mathlib.Core.List.{List};
-ghost use Prim.Native.Nat.{ℕ};
+ghost use Prim.Native.Nat.{_/_};
 ghost use lib.ListN.{length};
-ghost use Rattle.machine.specs.declared.Frame.{Frame};
-ghost use Rattle.machine.specs.Act.{ConstantS, ComplementS, OnesRightS, OnesLeftS, SumS, DifferenceS};
-ghost use Rattle.machine.specs.Codes.{One, Two};
-ghost use Rattle.machine.specs.Work.{done, execute};
-ghost use Rattle.access.specs.Layout.{registers, Reaches, Inside};
+ghost use Rattle.machine.specs.Word.{pick};
+ghost use Rattle.machine.specs.Layout.{frameOf};
+ghost use Rattle.access.specs.Window.{Reaches};
+ghost use Rattle.access.specs.Executed.{Executes, Alone};
 use machine::Fetched;
 use machine::ParcelAddr;
 use machine::Reach;
 use machine::Work;
 
-// 040ijkm: Si becomes jkm.
-pub fn constant(s: &mut [u64; 8], mem: &[u64], f: Reach, p: ParcelAddr, x: u64) -> Work
-    requires { ⌜ Inside f (length (now mem)) ⌝ }
-    ensures { λ w. ⌜ ((fr : Frame) (a b t v k : List ℕ) → Reaches fr f (length (now (mem .entry))) → done w (registers a (now (s .exit)) b t v k) (now (mem .entry)) ≡ execute fr (registers a (now (s .entry)) b t v k) (p .0) (now (mem .entry)) (Two ConstantS) x) ⌝ }
+// 040ijkm: Si becomes jkm. 041ijkm: its complement in 64 bits.
+pub fn enter(r: &mut [u64], mem: &[u64], f: Reach, p: ParcelAddr, x: u64, complement: bool) -> Work
+    requires { ⌜ (length (now r) ≡ 672) × (x / 512 ≡ pick complement 0o041 0o040) ⌝ }
+    requires { ⌜ Reaches (frameOf (now r)) f (length (now mem)) ⌝ }
+    ensures { λ w. ⌜ Executes w (now (r .entry)) (now (r .exit)) (now (mem .entry)) (now (mem .entry)) (p .0) x ⌝ }
 {
     let Fetched::Parcel(m) = access::fetch(mem, f, access::on(p, 1)) else {
-        return access::no_parcel(f);
+        return access::no_parcel(r);
     };
-    s[access::i(x)] = access::jkm(x, m);
-    access::past(p, 2)
-}
-
-// 041ijkm: Si becomes the complement of jkm.
-pub fn complement(s: &mut [u64; 8], mem: &[u64], f: Reach, p: ParcelAddr, x: u64) -> Work
-    requires { ⌜ Inside f (length (now mem)) ⌝ }
-    ensures { λ w. ⌜ ((fr : Frame) (a b t v k : List ℕ) → Reaches fr f (length (now (mem .entry))) → done w (registers a (now (s .exit)) b t v k) (now (mem .entry)) ≡ execute fr (registers a (now (s .entry)) b t v k) (p .0) (now (mem .entry)) (Two ComplementS) x) ⌝ }
-{
-    let Fetched::Parcel(m) = access::fetch(mem, f, access::on(p, 1)) else {
-        return access::no_parcel(f);
-    };
-    s[access::i(x)] = !access::jkm(x, m);
-    access::past(p, 2)
+    let y = word::either(access::jkm(x, m), complement);
+    access::set_s(r, access::i(x), y);
+    Work::PastTwo
 }
 
 // 042ijk: Si becomes 64 - jk ones at the right.
-pub fn ones_right(s: &mut [u64; 8], p: ParcelAddr, x: u64) -> Work
-    ensures { λ w. ⌜ ((fr : Frame) (a b t v k mem : List ℕ) → done w (registers a (now (s .exit)) b t v k) mem ≡ execute fr (registers a (now (s .entry)) b t v k) (p .0) mem (One OnesRightS) x) ⌝ }
+pub fn ones_right(r: &mut [u64], x: u64) -> Work
+    requires { ⌜ (length (now r) ≡ 672) × (x / 512 ≡ 0o042) ⌝ }
+    ensures { λ w. ⌜ Alone w (now (r .entry)) (now (r .exit)) x ⌝ }
 {
-    access::put(s, p, x, word::ones_right(x))
+    access::put_s(r, x, word::ones_right(x))
 }
 
 // 043ijk: Si becomes jk ones at the left.
-pub fn ones_left(s: &mut [u64; 8], p: ParcelAddr, x: u64) -> Work
-    ensures { λ w. ⌜ ((fr : Frame) (a b t v k mem : List ℕ) → done w (registers a (now (s .exit)) b t v k) mem ≡ execute fr (registers a (now (s .entry)) b t v k) (p .0) mem (One OnesLeftS) x) ⌝ }
+pub fn ones_left(r: &mut [u64], x: u64) -> Work
+    requires { ⌜ (length (now r) ≡ 672) × (x / 512 ≡ 0o043) ⌝ }
+    ensures { λ w. ⌜ Alone w (now (r .entry)) (now (r .exit)) x ⌝ }
 {
-    access::put(s, p, x, word::ones_left(x))
+    access::put_s(r, x, word::ones_left(x))
 }
 
 // 060ijk: Si becomes Sj + Sk.
-pub fn sum(s: &mut [u64; 8], p: ParcelAddr, x: u64) -> Work
-    ensures { λ w. ⌜ ((fr : Frame) (a b t v k mem : List ℕ) → done w (registers a (now (s .exit)) b t v k) mem ≡ execute fr (registers a (now (s .entry)) b t v k) (p .0) mem (One SumS) x) ⌝ }
+pub fn sum(r: &mut [u64], x: u64) -> Work
+    requires { ⌜ (length (now r) ≡ 672) × (x / 512 ≡ 0o060) ⌝ }
+    ensures { λ w. ⌜ Alone w (now (r .entry)) (now (r .exit)) x ⌝ }
 {
-    access::put(s, p, x, word::sum(access::at_j(s, x), access::s_k(s, x)))
+    access::put_s(r, x, word::sum(access::s_j(r, x), access::s_k(r, x)))
 }
 
 // 061ijk: Si becomes Sj - Sk.
-pub fn difference(s: &mut [u64; 8], p: ParcelAddr, x: u64) -> Work
-    ensures { λ w. ⌜ ((fr : Frame) (a b t v k mem : List ℕ) → done w (registers a (now (s .exit)) b t v k) mem ≡ execute fr (registers a (now (s .entry)) b t v k) (p .0) mem (One DifferenceS) x) ⌝ }
+pub fn difference(r: &mut [u64], x: u64) -> Work
+    requires { ⌜ (length (now r) ≡ 672) × (x / 512 ≡ 0o061) ⌝ }
+    ensures { λ w. ⌜ Alone w (now (r .entry)) (now (r .exit)) x ⌝ }
 {
-    access::put(
-        s,
-        p,
-        x,
-        word::difference(access::at_j(s, x), access::s_k(s, x)),
-    )
+    access::put_s(r, x, word::difference(access::s_j(r, x), access::s_k(r, x)))
 }

@@ -1,88 +1,102 @@
 // Transmits between S registers and the others: 071 to 077.
 ghost use mathlib.Core.Path.{_≡_};
-ghost use mathlib.Core.List.{List};
-ghost use Prim.Native.Nat.{ℕ};
-ghost use Rattle.machine.specs.Parcel.{jOf, kOf};
-ghost use Rattle.machine.specs.declared.Frame.{Frame};
-ghost use Rattle.machine.specs.Act.{statusOf, SFromT, TFromS, SFromV, VFromS};
-ghost use Rattle.machine.specs.Codes.{One, code071, code073};
-ghost use Rattle.machine.specs.Work.{done, execute};
-ghost use Rattle.access.specs.Layout.{registers, frame, FrameOk, KOk};
-use machine::ParcelAddr;
+ghost use Prim.Native.Nat.{_+_, _*_, _/_, _^_, _<_};
+ghost use lib.ListN.{length};
+ghost use lib.Dec.{eqb};
+ghost use Rattle.machine.specs.Word.{pick};
+ghost use Rattle.machine.specs.Work.{statusOf};
+ghost use Rattle.machine.specs.Layout.{registersOf, frameOf};
+ghost use Rattle.access.specs.Executed.{Alone, FrameOk, ControlOk};
 use machine::Work;
 
 // 071i0k, 071i1k: Si becomes Ak, filled up with zeros, or with its sign.
-pub fn from_a(a: &[u64; 8], s: &mut [u64; 8], p: ParcelAddr, x: u64) -> Work
-    ensures { λ w. ⌜ ((fr : Frame) (b t v k mem : List ℕ) → done w (registers (now (a .entry)) (now (s .exit)) b t v k) mem ≡ execute fr (registers (now (a .entry)) (now (s .entry)) b t v k) (p .0) mem (code071 (jOf x)) x) ⌝ }
+pub fn from_a(r: &mut [u64], x: u64) -> Work
+    requires { ⌜ (length (now r) ≡ 672) × (x / 512 ≡ 0o071) ⌝ }
+    ensures { λ w. ⌜ Alone w (now (r .entry)) (now (r .exit)) x ⌝ }
 {
     match access::j(x) {
-        0 => access::put(s, p, x, access::a_k(a, x)),
-        1 => access::put(s, p, x, word::sign_extended(access::a_k(a, x))),
-        _ => Work::Unheld,
+        0 => access::put_s(r, x, access::a_k(r, x)),
+        1 => access::put_s(r, x, word::sign_extended(access::a_k(r, x))),
+        _ => Work::NotHeld,
     }
 }
 
-// The status word: PS, FPS, IFP, IOR, BDM, the processor and the cluster; the highest bit is set where the cluster is not 0.
-fn status(k: &[u64; 5], q: &[u64; 10]) -> u64
-    requires { ⌜ FrameOk (frame (now q)) ⌝ }
-    requires { ⌜ KOk (now k) ⌝ }
-    ensures { λ r. ⌜ ((a s b t v : List ℕ) → r ≡ statusOf (frame (now (q .entry))) (registers a s b t v (now (k .entry)))) ⌝ }
+// The status word from its fields; the highest bit is set where the cluster is not 0.
+fn status_of(ps: u64, fps: u64, ifp: u64, ior: u64, bdm: u64, processor: u64, cln: u64) -> u64
+    requires { ⌜ (ps < 2) × (fps < 2) × (ifp < 2) × (ior < 2) × (bdm < 2) × (processor < 2) × (cln < 4) ⌝ }
+    ensures { λ y. ⌜ y ≡ pick (eqb cln 0) 0 (2 ^ 63) + ps * 2 ^ 57 + fps * 2 ^ 51 + ifp * 2 ^ 50 + ior * 2 ^ 49 + bdm * 2 ^ 48 + processor * 2 ^ 40 + cln * 2 ^ 32 ⌝ }
 {
-    let fields = q[access::PS] * (1 << 57)
-        + q[access::FPS] * (1 << 51)
-        + q[access::IFP] * (1 << 50)
-        + k[access::IOR] * (1 << 49)
-        + k[access::BDM] * (1 << 48)
-        + q[access::PROCESSOR] * (1 << 40)
-        + q[access::CLN] * (1 << 32);
-    if q[access::CLN] == 0 {
-        fields
-    } else {
-        fields + (1 << 63)
-    }
+    let fields = ps * (1 << 57)
+        + fps * (1 << 51)
+        + ifp * (1 << 50)
+        + ior * (1 << 49)
+        + bdm * (1 << 48)
+        + processor * (1 << 40)
+        + cln * (1 << 32);
+    if cln == 0 { fields } else { fields + (1 << 63) }
+}
+
+fn status(r: &[u64]) -> u64
+    requires { ⌜ length (now r) ≡ 672 ⌝ }
+    requires { ⌜ FrameOk (frameOf (now r)) × ControlOk (registersOf (now r)) × (frameOf (now r) .processor < 2) ⌝ }
+    ensures { λ y. ⌜ y ≡ statusOf (frameOf (now (r .entry))) (registersOf (now (r .entry))) ⌝ }
+{
+    status_of(
+        r[access::PS],
+        r[access::FPS],
+        r[access::IFP],
+        r[access::IOR],
+        r[access::BDM],
+        r[access::PROCESSOR],
+        r[access::CLN],
+    )
 }
 
 // 073i00, 073i01: Si becomes VM, or the status word.
-pub fn read_control(s: &mut [u64; 8], k: &[u64; 5], q: &[u64; 10], p: ParcelAddr, x: u64) -> Work
-    requires { ⌜ FrameOk (frame (now q)) ⌝ }
-    requires { ⌜ KOk (now k) ⌝ }
-    ensures { λ w. ⌜ ((a b t v mem : List ℕ) → done w (registers a (now (s .exit)) b t v (now (k .entry))) mem ≡ execute (frame (now (q .entry))) (registers a (now (s .entry)) b t v (now (k .entry))) (p .0) mem (code073 (jOf x) (kOf x)) x) ⌝ }
+pub fn read_control(r: &mut [u64], x: u64) -> Work
+    requires { ⌜ (length (now r) ≡ 672) × (x / 512 ≡ 0o073) ⌝ }
+    requires { ⌜ FrameOk (frameOf (now r)) × ControlOk (registersOf (now r)) × (frameOf (now r) .processor < 2) ⌝ }
+    ensures { λ w. ⌜ Alone w (now (r .entry)) (now (r .exit)) x ⌝ }
 {
     match access::jk(x) {
-        0 => access::put(s, p, x, k[access::VM]),
-        1 => access::put(s, p, x, status(k, q)),
-        _ => Work::Unheld,
+        0 => access::put_s(r, x, access::vm(r)),
+        1 => access::put_s(r, x, status(r)),
+        _ => Work::NotHeld,
     }
 }
 
 // 074ijk: Si becomes Tjk.
-pub fn from_t(s: &mut [u64; 8], t: &[u64; 64], p: ParcelAddr, x: u64) -> Work
-    ensures { λ w. ⌜ ((fr : Frame) (a b v k mem : List ℕ) → done w (registers a (now (s .exit)) b (now (t .entry)) v k) mem ≡ execute fr (registers a (now (s .entry)) b (now (t .entry)) v k) (p .0) mem (One SFromT) x) ⌝ }
+pub fn from_t(r: &mut [u64], x: u64) -> Work
+    requires { ⌜ (length (now r) ≡ 672) × (x / 512 ≡ 0o074) ⌝ }
+    ensures { λ w. ⌜ Alone w (now (r .entry)) (now (r .exit)) x ⌝ }
 {
-    access::put(s, p, x, t[access::jk(x)])
+    access::put_s(r, x, access::t_jk(r, x))
 }
 
 // 075ijk: Tjk becomes Si.
-pub fn to_t(s: &[u64; 8], t: &mut [u64; 64], p: ParcelAddr, x: u64) -> Work
-    ensures { λ w. ⌜ ((fr : Frame) (a b v k mem : List ℕ) → done w (registers a (now (s .entry)) b (now (t .exit)) v k) mem ≡ execute fr (registers a (now (s .entry)) b (now (t .entry)) v k) (p .0) mem (One TFromS) x) ⌝ }
+pub fn to_t(r: &mut [u64], x: u64) -> Work
+    requires { ⌜ (length (now r) ≡ 672) × (x / 512 ≡ 0o075) ⌝ }
+    ensures { λ w. ⌜ Alone w (now (r .entry)) (now (r .exit)) x ⌝ }
 {
-    t[access::jk(x)] = access::at_i(s, x);
-    access::past(p, 1)
+    access::set_t(r, access::jk(x), access::s_i(r, x));
+    Work::PastOne
 }
 
 // 076ijk: Si becomes element Ak of Vj, Ak modulo 64.
-pub fn from_v(a: &[u64; 8], s: &mut [u64; 8], v: &[u64; 512], p: ParcelAddr, x: u64) -> Work
-    ensures { λ w. ⌜ ((fr : Frame) (b t k mem : List ℕ) → done w (registers (now (a .entry)) (now (s .exit)) b t (now (v .entry)) k) mem ≡ execute fr (registers (now (a .entry)) (now (s .entry)) b t (now (v .entry)) k) (p .0) mem (One SFromV) x) ⌝ }
+pub fn from_v(r: &mut [u64], x: u64) -> Work
+    requires { ⌜ (length (now r) ≡ 672) × (x / 512 ≡ 0o076) ⌝ }
+    ensures { λ w. ⌜ Alone w (now (r .entry)) (now (r .exit)) x ⌝ }
 {
-    let e = (access::a_k(a, x) % 64) as usize;
-    access::put(s, p, x, v[access::j(x) * 64 + e])
+    let e = (access::a_k(r, x) % 64) as usize;
+    access::put_s(r, x, access::element(r, access::j(x), e))
 }
 
 // 077ijk: element Ak of Vi, Ak modulo 64, becomes Sj.
-pub fn to_v(a: &[u64; 8], s: &[u64; 8], v: &mut [u64; 512], p: ParcelAddr, x: u64) -> Work
-    ensures { λ w. ⌜ ((fr : Frame) (b t k mem : List ℕ) → done w (registers (now (a .entry)) (now (s .entry)) b t (now (v .exit)) k) mem ≡ execute fr (registers (now (a .entry)) (now (s .entry)) b t (now (v .entry)) k) (p .0) mem (One VFromS) x) ⌝ }
+pub fn to_v(r: &mut [u64], x: u64) -> Work
+    requires { ⌜ (length (now r) ≡ 672) × (x / 512 ≡ 0o077) ⌝ }
+    ensures { λ w. ⌜ Alone w (now (r .entry)) (now (r .exit)) x ⌝ }
 {
-    let e = (access::a_k(a, x) % 64) as usize;
-    v[access::i(x) * 64 + e] = access::at_j(s, x);
-    access::past(p, 1)
+    let e = (access::a_k(r, x) % 64) as usize;
+    access::set_element(r, access::i(x), e, access::s_j(r, x));
+    Work::PastOne
 }
