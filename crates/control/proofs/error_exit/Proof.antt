@@ -1,22 +1,18 @@
-use Rattle.machine.specs.Act.{act}
-use Rattle.machine.specs.Work.{perform, execute}
-use borrow.Author.Needs.{needs}
+use mathlib.Core.Path.{refl}
+use Rattle.machine.specs.Act.{ErrorExit, act}
+use Rattle.machine.specs.Codes.{codeOf}
+use Rattle.machine.specs.Work.{perform}
+use Rattle.access.proofs.Leaf.{one, unheld}
+use Rattle.control.proofs.Laws.{nothing}
 use Rattle.control.proofs.error_exit.Statement.{statement}
 use Rattle.control.proofs.error_exit.Tie as tie
 
-no-digits-requires : tie.Need-no-digits-requires
-no-digits-requires c κs = search needs
-
-on-requires : tie.Need-on-requires
-on-requires c κs = search needs
-
 returns : tie.Need-returns
-unfolding act perform execute
-returns c = λ fr a s b t v k mem. rw (← c .before .before .no-digits .ensures, c .before .if1 .taken, c .on .ensures)
+unfolding codeOf act perform
+returns c = λ r p mem. one _ _ _ mem _ p _ ErrorExit (rw (c .if1 .taken)) refl refl
 
 returns-2 : tie.Need-returns-2
-unfolding execute
-returns-2 c = λ fr a s b t v k mem. rw (← c .before .no-digits .ensures, c .if1 .left)
+returns-2 c = λ r p mem. unheld _ mem p _ (nothing _ _ (c .before .pre .1) (c .before .pre .0) (c .if1 .left))
 
 pub error-exit-spec : {M : Type 1} → statement M
-error-exit-spec = tie.close (tie.spec no-digits-requires on-requires returns returns-2)
+error-exit-spec = tie.close (tie.spec returns returns-2)

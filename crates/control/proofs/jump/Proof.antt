@@ -1,56 +1,53 @@
+use mathlib.Core.Path.{refl}
 use borrow.Author.Tests.{lt-ltb, le-ltb}
-use Rattle.machine.specs.State.{apply}
-use Rattle.machine.specs.Act.{act}
-use Rattle.machine.specs.Work.{perform, execute}
-use Rattle.access.proofs.Laws.{second}
+use Rattle.machine.specs.Act.{Jump, act}
+use Rattle.machine.specs.Codes.{codeOf}
+use Rattle.access.proofs.Windows.{code-inside, second, second-narrow}
+use Rattle.access.proofs.Leaf.{goes-two, puts-nothing, unheld, lost}
 use borrow.Author.Needs.{needs}
 use Rattle.control.proofs.jump.Statement.{statement}
 use Rattle.control.proofs.jump.Tie as tie
 
-i-requires : tie.Need-i-requires
-i-requires c κs = search needs
-
 returns : tie.Need-returns
-unfolding execute
-returns c = λ fr a s b t v k h. rw (← c .before .i .ensures) (simp (le-ltb _ _ (c .if1 .taken)))
-
-on-requires : tie.Need-on-requires
-on-requires c κs = search needs
+unfolding codeOf
+returns c =
+    let start = c .before .before .before .before in
+    unheld _ _ _ _ (rw (start .pre .0 .1, ← c .before .i .ensures, le-ltb _ _ (c .if1 .taken)))
 
 fetch-requires : tie.Need-fetch-requires
-fetch-requires c κs = search needs
-
-enum-known-got : tie.Need-enum-known-got
-enum-known-got c = search needs
-
-enum-told : tie.Need-enum-told
-enum-told c = search needs
-
-no-parcel-requires : tie.Need-no-parcel-requires
-no-parcel-requires c κs = search needs
+fetch-requires c κs =
+    let start = c .before .before .before .before .before in
+    code-inside _ _ _ (start .pre .1)
 
 returns-2 : tie.Need-returns-2
-unfolding execute
-returns-2 c = λ fr a s b t v k h. rw (← c .before .before .before .before .before .before .i .ensures, lt-ltb _ _ (c .before .before .before .before .before .if1 .left), second fr _ _ _ _ (c .before .before .before .before .on .ensures) (c .before .before .before .fetch .ensures .0 fr h), c .before .enum-told .given .1, c .no-parcel .ensures, h .user)
+unfolding codeOf
+returns-2 c =
+    let fetch = c .before .before .before .fetch in
+    let on = c .before .before .before .before .on in
+    let if1 = c .before .before .before .before .before .if1 in
+    let the-i = c .before .before .before .before .before .before .i in
+    let start = c .before .before .before .before .before .before .before .before .before in
+    lost _ _ _ _ _ Jump (rw (start .pre .0 .1, ← the-i .ensures, lt-ltb _ _ (if1 .left)))
+    (second _ _ _ _ _ (on .ensures) (fetch .ensures) _ _ (start .pre .1) (c .before .enum-told .given .1)) (c .no-parcel .ensures)
 
 to-requires : tie.Need-to-requires
-to-requires c κs = c .before .before .before .fetch .ensures .1 _ (c .before .got .given .1)
+to-requires c κs =
+    let fetch = c .before .before .before .fetch in
+    let on = c .before .before .before .before .on in
+    second-narrow _ _ _ _ _ (on .ensures) (fetch .ensures) _ (c .before .m .given .1)
 
 returns-3 : tie.Need-returns-3
-unfolding act perform execute apply
-returns-3 c = λ fr a s b t v k h. rw (← c .before .before .before .before .before .before .before .i .ensures, lt-ltb _ _ (c .before .before .before .before .before .before .if1 .left), second fr _ _ _ _ (c .before .before .before .before .before .on .ensures) (c .before .before .before .before .fetch .ensures .0 fr h), c .before .before .got .given .1, c .to .ensures)
+unfolding codeOf act
+returns-3 c =
+    let fetch = c .before .before .before .before .fetch in
+    let on = c .before .before .before .before .before .on in
+    let if1 = c .before .before .before .before .before .before .if1 in
+    let the-i = c .before .before .before .before .before .before .before .i in
+    let start = c .before .before .before .before .before .before .before .before .before .before in
+    goes-two Jump _ _ _ _ _ _ _ _ _ (c .to .ensures) (puts-nothing _) (rw (start .pre .0 .1, ← the-i .ensures, lt-ltb _ _ (if1 .left)))
+    (second _ _ _ _ _ (on .ensures) (fetch .ensures) _ _ (start .pre .1) (c .before .before .m .given .1)) refl
 
 pub jump-spec : {M : Type 1} → statement M
 jump-spec =
-    tie.close
-    (tie.spec
-    i-requires
-    returns
-    on-requires
-    fetch-requires
-    enum-known-got
-    enum-told
-    no-parcel-requires
-    returns-2
-    to-requires
-    returns-3)
+    tie.close (tie.spec (λ c κs. search needs) returns (λ c κs. search needs) fetch-requires (λ c. search needs)
+    (λ c. search needs) (λ c κs. search needs) returns-2 to-requires returns-3)

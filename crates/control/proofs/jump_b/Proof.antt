@@ -1,31 +1,25 @@
+use mathlib.Core.Path.{refl}
 use borrow.Author.Tests.{ne-eqb}
+use Rattle.machine.specs.Act.{JumpB, act}
+use Rattle.machine.specs.Codes.{codeOf}
 use Rattle.machine.specs.State.{apply}
-use Rattle.machine.specs.Act.{act}
-use Rattle.machine.specs.Work.{perform, execute}
+use Rattle.machine.specs.Work.{perform}
+use Rattle.access.proofs.Leaf.{one, unheld}
 use borrow.Author.Needs.{needs}
 use Rattle.control.proofs.jump_b.Statement.{statement}
 use Rattle.control.proofs.jump_b.Tie as tie
 
-i-requires : tie.Need-i-requires
-i-requires c κs = search needs
-
-jk-requires : tie.Need-jk-requires
-jk-requires c κs = search needs
-
-mul-t8 : tie.Need-mul-t8
-mul-t8 c = search needs
-
-element-copy-out-t11 : tie.Need-element-copy-out-t11
-element-copy-out-t11 c = search needs
-
 returns : tie.Need-returns
-unfolding act perform execute apply
-returns c = λ fr a s t v k mem. rw (← c .before .before .before .i .ensures, c .before .before .if1 .taken, c .t11 .given, c .before .jk .ensures)
+unfolding codeOf act perform apply
+returns c =
+    let start = c .before .before .before .before in
+    λ p mem. one _ _ _ mem _ p _ JumpB (rw (start .pre .1, ← c .before .before .i .ensures, c .before .if1 .taken)) refl (rw (c .b-jk .ensures))
 
 returns-2 : tie.Need-returns-2
-unfolding execute
-returns-2 c = λ fr a s t v k mem. rw (← c .before .i .ensures) (simp (ne-eqb _ _ (c .if1 .left)))
+unfolding codeOf
+returns-2 c =
+    let start = c .before .before .before in
+    λ p mem. unheld _ mem p _ (rw (start .pre .1, ← c .before .i .ensures) (simp (ne-eqb _ _ (c .if1 .left))))
 
 pub jump-b-spec : {M : Type 1} → statement M
-jump-b-spec =
-    tie.close (tie.spec i-requires jk-requires mul-t8 element-copy-out-t11 returns returns-2)
+jump-b-spec = tie.close (tie.spec (λ c κs. search needs) (λ c κs. search needs) returns returns-2)

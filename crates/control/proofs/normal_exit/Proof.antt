@@ -1,22 +1,19 @@
-use Rattle.machine.specs.Act.{act}
-use Rattle.machine.specs.Work.{perform, execute}
+use mathlib.Core.Path.{refl}
+use Rattle.machine.specs.Act.{NormalExit, act}
+use Rattle.machine.specs.Codes.{codeOf}
+use Rattle.machine.specs.Work.{perform}
+use Rattle.access.proofs.Leaf.{one, unheld}
 use borrow.Author.Needs.{needs}
 use Rattle.control.proofs.normal_exit.Statement.{statement}
 use Rattle.control.proofs.normal_exit.Tie as tie
 
-no-digits-requires : tie.Need-no-digits-requires
-no-digits-requires c κs = search needs
-
-on-requires : tie.Need-on-requires
-on-requires c κs = search needs
-
 returns : tie.Need-returns
-unfolding act perform execute
-returns c = λ fr a s b t v k mem. rw (← c .before .before .no-digits .ensures, c .before .if1 .taken, c .on .ensures)
+unfolding codeOf act perform
+returns c = λ r p mem. one _ _ _ mem _ p _ NormalExit (rw (c .before .before .pre, ← c .before .no-digits .ensures, c .if1 .taken)) refl refl
 
 returns-2 : tie.Need-returns-2
-unfolding execute
-returns-2 c = λ fr a s b t v k mem. rw (← c .before .no-digits .ensures, c .if1 .left)
+unfolding codeOf
+returns-2 c = λ r p mem. unheld _ mem p _ (rw (c .before .before .pre, ← c .before .no-digits .ensures, c .if1 .left))
 
 pub normal-exit-spec : {M : Type 1} → statement M
-normal-exit-spec = tie.close (tie.spec no-digits-requires on-requires returns returns-2)
+normal-exit-spec = tie.close (tie.spec (λ c κs. search needs) returns returns-2)
