@@ -1,263 +1,361 @@
-// The work of a step: fetch, and one jump table over the first three digits of the parcel, 000 to 177. It is a chain of functions
-// whose last arm hands on to the next, which the compiler joins to one table; each has one call.
+// The work of a step: fetch, and one jump table over the first three digits of the parcel, 000 to 177. The table is a chain of functions
+// whose last arm hands on to the next, which the compiler joins; each has one call.
 ghost use mathlib.Core.Path.{_≡_};
+ghost use mathlib.Core.Bool.{true};
+ghost use mathlib.Core.Logic.{_⊎_};
 ghost use mathlib.Core.List.{List};
-ghost use Prim.Native.Nat.{ℕ, _/_, _%_, _^_, _<_, _≤_};
+ghost use Prim.Native.Nat.{ℕ, _/_, _^_, _<_, _≤_};
 ghost use lib.ListN.{length};
-ghost use Rattle.machine.specs.declared.Frame.{Frame};
+ghost use Rattle.machine.specs.declared.Work.the-variants.{PastOne, NotHeld};
+ghost use Rattle.machine.specs.Word.{pick};
 ghost use Rattle.machine.specs.State.{user};
-ghost use Rattle.machine.specs.Codes.{codeOf};
-ghost use Rattle.machine.specs.Work.{done, execute, workOf};
-ghost use Rattle.access.specs.Layout.{registers, frame, Reaches, Inside, FrameOk, KOk};
+ghost use Rattle.machine.specs.Work.{ranged};
+ghost use Rattle.machine.specs.Layout.{registersOf, frameOf};
+ghost use Rattle.access.specs.Window.{Reaches};
+ghost use Rattle.access.specs.Executed.{Executes, Alone};
+ghost use Rattle.vector.specs.Element.{plain};
+ghost use Rattle.dispatch.specs.Table.{Ready, Works, armOf, highArm};
+use control::Test;
 use machine::Fetched;
 use machine::ParcelAddr;
 use machine::Reach;
 use machine::Work;
+use memory::File;
 
-// 170 to 177, by h.
-fn from_170(
-    a: &[u64; 8],
-    v: &mut [u64; 512],
-    k: &mut [u64; 5],
-    mem: &mut [u64],
-    f: Reach,
-    p: ParcelAddr,
-    x: u64,
-) -> Work
-    requires { ⌜ Inside f (length (now mem)) ⌝ }
-    requires { ⌜ KOk (now k) ⌝ }
-    requires { ⌜ x / 512 / 8 ≡ 0o17 ⌝ }
-    ensures { λ w. ⌜ ((fr : Frame) (s b t : List ℕ) → Reaches fr f (length (now (mem .entry))) → done w (registers (now (a .entry)) s b t (now (v .exit)) (now (k .exit))) (now (mem .exit)) ≡ execute fr (registers (now (a .entry)) s b t (now (v .entry)) (now (k .entry))) (p .0) (now (mem .entry)) (codeOf (user fr) x) x) ⌝ }
+// The arm of a code. That all 128 are listed spares the table its range check; codes that name no instruction share the arm of 000, since an
+// arm of their own would cost every step a move.
+fn arm(code: u64) -> u64
+    requires { ⌜ code < 128 ⌝ }
+    ensures { λ n. ⌜ n ≡ armOf code ⌝ }
 {
-    let h = x / 512 % 8;
-    match h {
-        0 => Work::Unheld,
-        1 => Work::Unheld,
-        2 => Work::Unheld,
-        3 => Work::Unheld,
-        4 => vector::count(v, k, p, x),
-        5 => vector::mark(v, k, p, x),
-        6 => memory::blocks::read_v(a, v, k, mem, f, p, x),
-        _ => memory::blocks::store_v(a, v, k, mem, f, p, x),
+    match code {
+        0o000 => 0o000,
+        0o001 => 0o001,
+        0o002 => 0o002,
+        0o003 => 0o003,
+        0o004 => 0o004,
+        0o005 => 0o005,
+        0o006 => 0o006,
+        0o007 => 0o007,
+        0o010 => 0o010,
+        0o011 => 0o011,
+        0o012 => 0o012,
+        0o013 => 0o013,
+        0o014 => 0o014,
+        0o015 => 0o015,
+        0o016 => 0o016,
+        0o017 => 0o017,
+        0o020 => 0o020,
+        0o021 => 0o021,
+        0o022 => 0o022,
+        0o023 => 0o023,
+        0o024 => 0o024,
+        0o025 => 0o025,
+        0o026 => 0o026,
+        0o027 => 0o027,
+        0o030 => 0o030,
+        0o031 => 0o031,
+        0o032 => 0o032,
+        0o033 => 0o000,
+        0o034 => 0o034,
+        0o035 => 0o035,
+        0o036 => 0o036,
+        0o037 => 0o037,
+        0o040 => 0o040,
+        0o041 => 0o041,
+        0o042 => 0o042,
+        0o043 => 0o043,
+        0o044 => 0o044,
+        0o045 => 0o045,
+        0o046 => 0o046,
+        0o047 => 0o047,
+        0o050 => 0o050,
+        0o051 => 0o051,
+        0o052 => 0o052,
+        0o053 => 0o053,
+        0o054 => 0o054,
+        0o055 => 0o055,
+        0o056 => 0o056,
+        0o057 => 0o057,
+        0o060 => 0o060,
+        0o061 => 0o061,
+        0o062 => 0o000,
+        0o063 => 0o000,
+        0o064 => 0o000,
+        0o065 => 0o000,
+        0o066 => 0o000,
+        0o067 => 0o000,
+        0o070 => 0o000,
+        0o071 => 0o071,
+        0o072 => 0o000,
+        0o073 => 0o073,
+        0o074 => 0o074,
+        0o075 => 0o075,
+        0o076 => 0o076,
+        0o077 => 0o077,
+        0o100 => 0o100,
+        0o101 => 0o100,
+        0o102 => 0o100,
+        0o103 => 0o100,
+        0o104 => 0o100,
+        0o105 => 0o100,
+        0o106 => 0o100,
+        0o107 => 0o100,
+        0o110 => 0o110,
+        0o111 => 0o110,
+        0o112 => 0o110,
+        0o113 => 0o110,
+        0o114 => 0o110,
+        0o115 => 0o110,
+        0o116 => 0o110,
+        0o117 => 0o110,
+        0o120 => 0o120,
+        0o121 => 0o120,
+        0o122 => 0o120,
+        0o123 => 0o120,
+        0o124 => 0o120,
+        0o125 => 0o120,
+        0o126 => 0o120,
+        0o127 => 0o120,
+        0o130 => 0o130,
+        0o131 => 0o130,
+        0o132 => 0o130,
+        0o133 => 0o130,
+        0o134 => 0o130,
+        0o135 => 0o130,
+        0o136 => 0o130,
+        0o137 => 0o130,
+        0o140 => 0o140,
+        0o141 => 0o140,
+        0o142 => 0o140,
+        0o143 => 0o140,
+        0o144 => 0o140,
+        0o145 => 0o140,
+        0o146 => 0o146,
+        0o147 => 0o147,
+        0o150 => 0o150,
+        0o151 => 0o150,
+        0o152 => 0o150,
+        0o153 => 0o150,
+        0o154 => 0o154,
+        0o155 => 0o154,
+        0o156 => 0o154,
+        0o157 => 0o154,
+        0o160 => 0o000,
+        0o161 => 0o000,
+        0o162 => 0o000,
+        0o163 => 0o000,
+        0o164 => 0o000,
+        0o165 => 0o000,
+        0o166 => 0o000,
+        0o167 => 0o000,
+        0o170 => 0o000,
+        0o171 => 0o000,
+        0o172 => 0o000,
+        0o173 => 0o000,
+        0o174 => 0o174,
+        0o175 => 0o174,
+        0o176 => 0o176,
+        0o177 => 0o177,
+        _ => 0o200,
     }
 }
 
-// 100 to 177, by g.
-fn from_100(
-    a: &mut [u64; 8],
-    s: &mut [u64; 8],
-    v: &mut [u64; 512],
-    k: &mut [u64; 5],
-    mem: &mut [u64],
-    f: Reach,
-    p: ParcelAddr,
-    x: u64,
-) -> Work
-    requires { ⌜ Inside f (length (now mem)) ⌝ }
-    requires { ⌜ KOk (now k) ⌝ }
-    requires { ⌜ 0o100 ≤ x / 512 ⌝ }
-    ensures { λ w. ⌜ ((fr : Frame) (b t : List ℕ) → Reaches fr f (length (now (mem .entry))) → done w (registers (now (a .exit)) (now (s .exit)) b t (now (v .exit)) (now (k .exit))) (now (mem .exit)) ≡ execute fr (registers (now (a .entry)) (now (s .entry)) b t (now (v .entry)) (now (k .entry))) (p .0) (now (mem .entry)) (codeOf (user fr) x) x) ⌝ }
+// The end of a vector instruction of one parcel, if the machine holds it.
+fn held(holds: bool) -> Work
+    ensures { λ w. ⌜ w ≡ pick holds PastOne NotHeld ⌝ }
 {
-    let g = x / 512 / 8;
-    match g {
-        0o10 => memory::load_a(a, k, mem, f, p, x),
-        0o11 => memory::store_a(a, k, mem, f, p, x),
-        0o12 => memory::load_s(a, s, k, mem, f, p, x),
-        0o13 => memory::store_s(a, s, k, mem, f, p, x),
-        0o14 => vector::logic_140(s, v, k, p, x),
-        0o15 => vector::shift_sum_150(a, s, v, k, p, x),
-        0o16 => Work::Unheld,
-        0o17 => from_170(a, v, k, mem, f, p, x),
-        _ => Work::Unheld,
+    if holds {
+        Work::PastOne
+    } else {
+        Work::NotHeld
+    }
+}
+
+// 140 to 145 and 154 to 157: all 64 elements, or as many as VL says.
+fn vectors(r: &mut [u64], x: u64) -> Work
+    requires { ⌜ (length (now r) ≡ 672) × (registersOf (now r) .vl ≤ 64) × (plain (x / 512) ≡ true) ⌝ }
+    ensures { λ w. ⌜ Alone w (now (r .entry)) (now (r .exit)) x ⌝ }
+{
+    if access::vl(r) == 64 {
+        vector::full(r, x);
+    } else {
+        vector::part(r, x);
+    }
+    Work::PastOne
+}
+
+// The end of an instruction of one parcel that moved words, perhaps outside the data field.
+fn moved(outside: bool, r: &[u64]) -> Work
+    requires { ⌜ length (now r) ≡ 672 ⌝ }
+    ensures { λ w. ⌜ w ≡ ranged (user (frameOf (now (r .entry)))) (registersOf (now (r .entry)) .ior) 1 outside ⌝ }
+{
+    access::ended(r, 1, outside)
+}
+
+// 176i0k: Vi from memory.
+fn read_v(r: &mut [u64], mem: &[u64], f: Reach, x: u64) -> Work
+    requires { ⌜ Ready (now r) f (length (now mem)) ⌝ }
+    requires { ⌜ x / 512 ≡ 0o176 ⌝ }
+    ensures { λ w. ⌜ ((p : ℕ) → Executes w (now (r .entry)) (now (r .exit)) (now (mem .entry)) (now (mem .entry)) p x) ⌝ }
+{
+    if access::j(x) != 0 {
+        return Work::NotHeld;
+    }
+    moved(memory::blocks::read_v(r, mem, f.operands, f.words, x), r)
+}
+
+// 1770jk: Vj to memory.
+fn store_v(r: &[u64], mem: &mut [u64], f: Reach, x: u64) -> Work
+    requires { ⌜ Ready (now r) f (length (now mem)) ⌝ }
+    requires { ⌜ x / 512 ≡ 0o177 ⌝ }
+    ensures { λ w. ⌜ ((p : ℕ) → Executes w (now (r .entry)) (now (r .entry)) (now (mem .entry)) (now (mem .exit)) p x) ⌝ }
+{
+    if access::i(x) != 0 {
+        return Work::NotHeld;
+    }
+    moved(memory::blocks::store_v(r, mem, f.operands, f.words, x), r)
+}
+
+// 146 and 147.
+fn merge(r: &mut [u64], x: u64) -> Work
+    requires { ⌜ (length (now r) ≡ 672) × (registersOf (now r) .vl ≤ 64) × ((x / 512 ≡ 0o146) ⊎ (x / 512 ≡ 0o147)) ⌝ }
+    ensures { λ w. ⌜ Alone w (now (r .entry)) (now (r .exit)) x ⌝ }
+{
+    vector::merge(r, x);
+    Work::PastOne
+}
+
+// 100 to 177.
+fn from_100(r: &mut [u64], mem: &mut [u64], f: Reach, p: ParcelAddr, x: u64, n: u64) -> Work
+    requires { ⌜ Ready (now r) f (length (now mem)) ⌝ }
+    requires { ⌜ (x < 2 ^ 16) × (n ≡ armOf (x / 512)) × (highArm n ≡ true) ⌝ }
+    ensures { λ w. ⌜ Executes w (now (r .entry)) (now (r .exit)) (now (mem .entry)) (now (mem .exit)) (p .0) x ⌝ }
+{
+    match n {
+        0o100 => memory::load(r, mem, f, p, x, File::A),
+        0o110 => memory::store(r, mem, f, p, x, File::A),
+        0o120 => memory::load(r, mem, f, p, x, File::S),
+        0o130 => memory::store(r, mem, f, p, x, File::S),
+        0o140 => vectors(r, x),
+        0o146 => merge(r, x),
+        0o147 => merge(r, x),
+        0o150 => held(vector::others(r, x)),
+        0o154 => vectors(r, x),
+        0o174 => held(vector::others(r, x)),
+        0o176 => read_v(r, mem, f, x),
+        0o177 => store_v(r, mem, f, x),
+        _ => Work::NotHeld,
     }
 }
 
 // 060 to 077.
-fn from_060(
-    a: &mut [u64; 8],
-    s: &mut [u64; 8],
-    t: &mut [u64; 64],
-    v: &mut [u64; 512],
-    k: &mut [u64; 5],
-    q: &[u64; 10],
-    mem: &mut [u64],
-    f: Reach,
-    p: ParcelAddr,
-    x: u64,
-) -> Work
-    requires { ⌜ Inside f (length (now mem)) ⌝ }
-    requires { ⌜ KOk (now k) ⌝ }
-    requires { ⌜ FrameOk (frame (now q)) ⌝ }
-    requires { ⌜ 0o060 ≤ x / 512 ⌝ }
-    ensures { λ w. ⌜ ((b : List ℕ) → Reaches (frame (now (q .entry))) f (length (now (mem .entry))) → done w (registers (now (a .exit)) (now (s .exit)) b (now (t .exit)) (now (v .exit)) (now (k .exit))) (now (mem .exit)) ≡ execute (frame (now (q .entry))) (registers (now (a .entry)) (now (s .entry)) b (now (t .entry)) (now (v .entry)) (now (k .entry))) (p .0) (now (mem .entry)) (codeOf (user (frame (now (q .entry)))) x) x) ⌝ }
+fn from_060(r: &mut [u64], mem: &mut [u64], f: Reach, p: ParcelAddr, x: u64, n: u64) -> Work
+    requires { ⌜ Ready (now r) f (length (now mem)) ⌝ }
+    requires { ⌜ (x < 2 ^ 16) × (n ≡ armOf (x / 512)) × (0o060 ≤ n) ⌝ }
+    ensures { λ w. ⌜ Executes w (now (r .entry)) (now (r .exit)) (now (mem .entry)) (now (mem .exit)) (p .0) x ⌝ }
 {
-    let op = x / 512;
-    match op {
-        0o060 => scalar::sum(s, p, x),
-        0o061 => scalar::difference(s, p, x),
-        0o062 => Work::Unheld,
-        0o063 => Work::Unheld,
-        0o064 => Work::Unheld,
-        0o065 => Work::Unheld,
-        0o066 => Work::Unheld,
-        0o067 => Work::Unheld,
-        0o070 => Work::Unheld,
-        0o071 => scalar::transmit::from_a(a, s, p, x),
-        0o072 => Work::Unheld,
-        0o073 => scalar::transmit::read_control(s, k, q, p, x),
-        0o074 => scalar::transmit::from_t(s, t, p, x),
-        0o075 => scalar::transmit::to_t(s, t, p, x),
-        0o076 => scalar::transmit::from_v(a, s, v, p, x),
-        0o077 => scalar::transmit::to_v(a, s, v, p, x),
-        _ => from_100(a, s, v, k, mem, f, p, x),
+    match n {
+        0o060 => scalar::sum(r, x),
+        0o061 => scalar::difference(r, x),
+        0o071 => scalar::transmit::from_a(r, x),
+        0o073 => scalar::transmit::read_control(r, x),
+        0o074 => scalar::transmit::from_t(r, x),
+        0o075 => scalar::transmit::to_t(r, x),
+        0o076 => scalar::transmit::from_v(r, x),
+        0o077 => scalar::transmit::to_v(r, x),
+        _ => from_100(r, mem, f, p, x, n),
     }
 }
 
 // 040 to 057.
-fn from_040(
-    a: &mut [u64; 8],
-    s: &mut [u64; 8],
-    t: &mut [u64; 64],
-    v: &mut [u64; 512],
-    k: &mut [u64; 5],
-    q: &[u64; 10],
-    mem: &mut [u64],
-    f: Reach,
-    p: ParcelAddr,
-    x: u64,
-) -> Work
-    requires { ⌜ Inside f (length (now mem)) ⌝ }
-    requires { ⌜ KOk (now k) ⌝ }
-    requires { ⌜ FrameOk (frame (now q)) ⌝ }
-    requires { ⌜ 0o040 ≤ x / 512 ⌝ }
-    ensures { λ w. ⌜ ((b : List ℕ) → Reaches (frame (now (q .entry))) f (length (now (mem .entry))) → done w (registers (now (a .exit)) (now (s .exit)) b (now (t .exit)) (now (v .exit)) (now (k .exit))) (now (mem .exit)) ≡ execute (frame (now (q .entry))) (registers (now (a .entry)) (now (s .entry)) b (now (t .entry)) (now (v .entry)) (now (k .entry))) (p .0) (now (mem .entry)) (codeOf (user (frame (now (q .entry)))) x) x) ⌝ }
+fn from_040(r: &mut [u64], mem: &mut [u64], f: Reach, p: ParcelAddr, x: u64, n: u64) -> Work
+    requires { ⌜ Ready (now r) f (length (now mem)) ⌝ }
+    requires { ⌜ (x < 2 ^ 16) × (n ≡ armOf (x / 512)) × (0o040 ≤ n) ⌝ }
+    ensures { λ w. ⌜ Executes w (now (r .entry)) (now (r .exit)) (now (mem .entry)) (now (mem .exit)) (p .0) x ⌝ }
 {
-    let op = x / 512;
-    match op {
-        0o040 => scalar::constant(s, mem, f, p, x),
-        0o041 => scalar::complement(s, mem, f, p, x),
-        0o042 => scalar::ones_right(s, p, x),
-        0o043 => scalar::ones_left(s, p, x),
-        0o044 => scalar::logic::and(s, p, x),
-        0o045 => scalar::logic::and_not(s, p, x),
-        0o046 => scalar::logic::xor(s, p, x),
-        0o047 => scalar::logic::eqv(s, p, x),
-        0o050 => scalar::logic::merge(s, p, x),
-        0o051 => scalar::logic::or(s, p, x),
-        0o052 => scalar::shift::left_0(s, p, x),
-        0o053 => scalar::shift::right_0(s, p, x),
-        0o054 => scalar::shift::left(s, p, x),
-        0o055 => scalar::shift::right(s, p, x),
-        0o056 => scalar::shift::left_pair(a, s, p, x),
-        0o057 => scalar::shift::right_pair(a, s, p, x),
-        _ => from_060(a, s, t, v, k, q, mem, f, p, x),
+    match n {
+        0o040 => scalar::enter(r, mem, f, p, x, false),
+        0o041 => scalar::enter(r, mem, f, p, x, true),
+        0o042 => scalar::ones_right(r, x),
+        0o043 => scalar::ones_left(r, x),
+        0o044 => scalar::logic::and(r, x),
+        0o045 => scalar::logic::and_not(r, x),
+        0o046 => scalar::logic::xor(r, x),
+        0o047 => scalar::logic::eqv(r, x),
+        0o050 => scalar::logic::merge(r, x),
+        0o051 => scalar::logic::or(r, x),
+        0o052 => scalar::shift::left_0(r, x),
+        0o053 => scalar::shift::right_0(r, x),
+        0o054 => scalar::shift::left(r, x),
+        0o055 => scalar::shift::right(r, x),
+        0o056 => scalar::shift::left_pair(r, x),
+        0o057 => scalar::shift::right_pair(r, x),
+        _ => from_060(r, mem, f, p, x, n),
     }
 }
 
 // 020 to 037.
-fn from_020(
-    a: &mut [u64; 8],
-    s: &mut [u64; 8],
-    b: &mut [u64; 64],
-    t: &mut [u64; 64],
-    v: &mut [u64; 512],
-    k: &mut [u64; 5],
-    q: &[u64; 10],
-    mem: &mut [u64],
-    f: Reach,
-    p: ParcelAddr,
-    x: u64,
-) -> Work
-    requires { ⌜ Inside f (length (now mem)) ⌝ }
-    requires { ⌜ KOk (now k) ⌝ }
-    requires { ⌜ FrameOk (frame (now q)) ⌝ }
-    requires { ⌜ 0o020 ≤ x / 512 ⌝ }
-    ensures { λ w. ⌜ (Reaches (frame (now (q .entry))) f (length (now (mem .entry))) → done w (registers (now (a .exit)) (now (s .exit)) (now (b .exit)) (now (t .exit)) (now (v .exit)) (now (k .exit))) (now (mem .exit)) ≡ execute (frame (now (q .entry))) (registers (now (a .entry)) (now (s .entry)) (now (b .entry)) (now (t .entry)) (now (v .entry)) (now (k .entry))) (p .0) (now (mem .entry)) (codeOf (user (frame (now (q .entry)))) x) x) ⌝ }
+fn from_020(r: &mut [u64], mem: &mut [u64], f: Reach, p: ParcelAddr, x: u64, n: u64) -> Work
+    requires { ⌜ Ready (now r) f (length (now mem)) ⌝ }
+    requires { ⌜ (x < 2 ^ 16) × (n ≡ armOf (x / 512)) × (0o020 ≤ n) ⌝ }
+    ensures { λ w. ⌜ Executes w (now (r .entry)) (now (r .exit)) (now (mem .entry)) (now (mem .exit)) (p .0) x ⌝ }
 {
-    let op = x / 512;
-    match op {
-        0o020 => address::constant(a, mem, f, p, x),
-        0o021 => address::complement(a, mem, f, p, x),
-        0o022 => address::short(a, p, x),
-        0o023 => address::from_s_or_vl(a, s, k, p, x),
-        0o024 => address::from_b(a, b, p, x),
-        0o025 => address::to_b(a, b, p, x),
-        0o026 => address::ones(a, s, p, x),
-        0o027 => address::zeros(a, s, p, x),
-        0o030 => address::sum(a, p, x),
-        0o031 => address::difference(a, p, x),
-        0o032 => address::product(a, p, x),
-        0o033 => Work::Unheld,
-        0o034 => memory::blocks::read_b(a, b, k, mem, f, p, x),
-        0o035 => memory::blocks::store_b(a, b, k, mem, f, p, x),
-        0o036 => memory::blocks::read_t(a, t, k, mem, f, p, x),
-        0o037 => memory::blocks::store_t(a, t, k, mem, f, p, x),
-        _ => from_040(a, s, t, v, k, q, mem, f, p, x),
+    match n {
+        0o020 => address::enter(r, mem, f, p, x, false),
+        0o021 => address::enter(r, mem, f, p, x, true),
+        0o022 => address::short(r, x),
+        0o023 => address::from_s_or_vl(r, x),
+        0o024 => address::from_b(r, x),
+        0o025 => address::to_b(r, x),
+        0o026 => address::ones(r, x),
+        0o027 => address::zeros(r, x),
+        0o030 => address::sum(r, x),
+        0o031 => address::difference(r, x),
+        0o032 => address::product(r, x),
+        0o034 => moved(memory::blocks::read_b(r, mem, f.operands, f.words, x), r),
+        0o035 => moved(memory::blocks::store_b(r, mem, f.operands, f.words, x), r),
+        0o036 => moved(memory::blocks::read_t(r, mem, f.operands, f.words, x), r),
+        0o037 => moved(memory::blocks::store_t(r, mem, f.operands, f.words, x), r),
+        _ => from_040(r, mem, f, p, x, n),
     }
 }
 
 // 000 to 017.
-fn from_000(
-    a: &mut [u64; 8],
-    s: &mut [u64; 8],
-    b: &mut [u64; 64],
-    t: &mut [u64; 64],
-    v: &mut [u64; 512],
-    k: &mut [u64; 5],
-    q: &[u64; 10],
-    mem: &mut [u64],
-    f: Reach,
-    p: ParcelAddr,
-    x: u64,
-) -> Work
-    requires { ⌜ Inside f (length (now mem)) ⌝ }
-    requires { ⌜ KOk (now k) ⌝ }
-    requires { ⌜ FrameOk (frame (now q)) ⌝ }
-    ensures { λ w. ⌜ (Reaches (frame (now (q .entry))) f (length (now (mem .entry))) → done w (registers (now (a .exit)) (now (s .exit)) (now (b .exit)) (now (t .exit)) (now (v .exit)) (now (k .exit))) (now (mem .exit)) ≡ execute (frame (now (q .entry))) (registers (now (a .entry)) (now (s .entry)) (now (b .entry)) (now (t .entry)) (now (v .entry)) (now (k .entry))) (p .0) (now (mem .entry)) (codeOf (user (frame (now (q .entry)))) x) x) ⌝ }
+fn from_000(r: &mut [u64], mem: &mut [u64], f: Reach, p: ParcelAddr, x: u64, n: u64) -> Work
+    requires { ⌜ Ready (now r) f (length (now mem)) ⌝ }
+    requires { ⌜ (x < 2 ^ 16) × (n ≡ armOf (x / 512)) ⌝ }
+    ensures { λ w. ⌜ Executes w (now (r .entry)) (now (r .exit)) (now (mem .entry)) (now (mem .exit)) (p .0) x ⌝ }
 {
-    let op = x / 512;
-    match op {
-        0o000 => control::error_exit(p, x),
-        0o001 => control::privileged(a, k, f, p, x),
-        0o002 => control::modes(a, k, p, x),
-        0o003 => control::set_mask(s, k, p, x),
-        0o004 => control::normal_exit(p, x),
-        0o005 => control::jump_b(b, p, x),
-        0o006 => control::jump(mem, f, p, x),
-        0o007 => control::return_jump(b, mem, f, p, x),
-        0o010 => control::branch(a, mem, f, p, x, control::zero(a)),
-        0o011 => control::branch(a, mem, f, p, x, !control::zero(a)),
-        0o012 => control::branch(a, mem, f, p, x, !control::minus_a(a)),
-        0o013 => control::branch(a, mem, f, p, x, control::minus_a(a)),
-        0o014 => control::branch(a, mem, f, p, x, control::zero(s)),
-        0o015 => control::branch(a, mem, f, p, x, !control::zero(s)),
-        0o016 => control::branch(a, mem, f, p, x, !control::minus_s(s)),
-        0o017 => control::branch(a, mem, f, p, x, control::minus_s(s)),
-        _ => from_020(a, s, b, t, v, k, q, mem, f, p, x),
+    match n {
+        0o000 => control::error_exit(x),
+        0o001 => control::privileged(r, x),
+        0o002 => control::modes(r, x),
+        0o003 => control::set_mask(r, x),
+        0o004 => control::normal_exit(x),
+        0o005 => control::jump_b(r, x),
+        0o006 => control::jump(r, mem, f, p, x),
+        0o007 => control::return_jump(r, mem, f, p, x),
+        0o010 => control::branch(r, mem, f, p, x, Test::ZeroA),
+        0o011 => control::branch(r, mem, f, p, x, Test::NonZeroA),
+        0o012 => control::branch(r, mem, f, p, x, Test::PlusA),
+        0o013 => control::branch(r, mem, f, p, x, Test::MinusA),
+        0o014 => control::branch(r, mem, f, p, x, Test::ZeroS),
+        0o015 => control::branch(r, mem, f, p, x, Test::NonZeroS),
+        0o016 => control::branch(r, mem, f, p, x, Test::PlusS),
+        0o017 => control::branch(r, mem, f, p, x, Test::MinusS),
+        _ => from_020(r, mem, f, p, x, n),
     }
 }
 
-// The work of the step at p.
-pub fn work(
-    a: &mut [u64; 8],
-    s: &mut [u64; 8],
-    b: &mut [u64; 64],
-    t: &mut [u64; 64],
-    v: &mut [u64; 512],
-    k: &mut [u64; 5],
-    q: &[u64; 10],
-    mem: &mut [u64],
-    f: Reach,
-    p: ParcelAddr,
-) -> Work
-    requires { ⌜ Inside f (length (now mem)) ⌝ }
-    requires { ⌜ KOk (now k) ⌝ }
-    requires { ⌜ FrameOk (frame (now q)) ⌝ }
+// The work of a step at p.
+pub fn work(r: &mut [u64], mem: &mut [u64], f: Reach, p: ParcelAddr) -> Work
+    requires { ⌜ Ready (now r) f (length (now mem)) ⌝ }
     requires { ⌜ p .0 < 2 ^ 24 ⌝ }
-    ensures { λ w. ⌜ (Reaches (frame (now (q .entry))) f (length (now (mem .entry))) → done w (registers (now (a .exit)) (now (s .exit)) (now (b .exit)) (now (t .exit)) (now (v .exit)) (now (k .exit))) (now (mem .exit)) ≡ workOf (frame (now (q .entry))) (registers (now (a .entry)) (now (s .entry)) (now (b .entry)) (now (t .entry)) (now (v .entry)) (now (k .entry))) (p .0) (now (mem .entry))) ⌝ }
+    ensures { λ w. ⌜ Works w (now (r .entry)) (now (r .exit)) (now (mem .entry)) (now (mem .exit)) (p .0) ⌝ }
 {
     let Fetched::Parcel(x) = access::fetch(mem, f, p) else {
-        return access::no_parcel(f);
+        return access::no_parcel(r);
     };
-    from_000(a, s, b, t, v, k, q, mem, f, p, x)
+    from_000(r, mem, f, p, x, arm(x / 512))
 }
