@@ -1,5 +1,3 @@
+pub mod Below
+pub mod Acts
 pub mod Laws
-pub mod Fits
-pub mod Wrong
-pub mod Kept
-pub mod Calls
