@@ -14,19 +14,22 @@ use borrow.Author.Tests.{eqb-false}
 use Rattle.machine.specs.Word.{pick, sum24, difference24, product24, sum64, difference64, merge, shiftLeft, shiftRight, shiftLeftPair, shiftRightPair, onesLeft, onesRight, parity, signed, minus24, minus64, lengthOf}
 use Rattle.machine.specs.Parcel.{iOf, jOf, kOf, jkOf, ijkmOf}
 use Rattle.machine.specs.State.{Registers, ai, ak, si, sj, sk, el, Put, Nothing, ToA, ToS, ToB, ToT, ToBs, ToTs, ToV, ToElement, ToVL, ToVM, ToXA, ToIOR, ToBDM}
-use Rattle.machine.specs.Act.{Act, Does, Goes, Reads, Writes, LeavesNormally, LeavesByError, branch, masked, marksOf, act}
-use Rattle.machine.specs.Act.{Instr, ErrorExit, Pass, SetXA, SetVL, SetIOR, ClearIOR, ClearBDM, SetBDM, VMFromS, NormalExit, JumpB, Jump, ReturnJump, JumpAZ, JumpAN, JumpAP, JumpAM, JumpSZ, JumpSN, JumpSP, JumpSM, ConstantAh, ConstantA, ComplementA, ShortA, AFromS, AFromVL, AFromB, BFromA, AOnes, AParity, AZeros, SumA, DifferenceA, ProductA, ReadB, StoreB, ReadT, StoreT, ConstantS, ComplementS, OnesRightS, OnesLeftS, AndS, AndNotS, XorS, EqvS, MergeS, OrS, LeftS0, RightS0, LeftS, RightS, LeftPairS, RightPairS, SumS, DifferenceS, SFromA, SFromSignedA, SFromVM, Status, SFromT, TFromS, SFromV, VFromS, LoadA, StoreA, LoadS, StoreS, AndSV, AndVV, OrSV, OrVV, XorSV, XorVV, MergeSV, MergeVV, LeftV, RightV, LeftPairV, RightPairV, SumSV, SumVV, DifferenceSV, DifferenceVV, OnesV, ParityV, MarkZ, MarkN, MarkP, MarkM, LoadV, StoreV}
+use Rattle.machine.specs.Act.{Instr, Act, Does, Goes, Reads, Writes, LeavesNormally, LeavesByError, branch, masked, marksOf, act}
+use Rattle.machine.specs.Act as I
 use Rattle.machine.specs.Refusal.{below}
-use Rattle.laws.proofs.Below.{low, below-getD}
+use Rattle.laws.proofs.Below.{pick-lt, low, below-getD}
 
 -- the lists of a processor, and VM, have their widths
-pub record ListsOk (r : Registers) : Type 0 where
-  pub a : below (2 ^ 24) (r .a) ≡ true
-  pub s : below (2 ^ 64) (r .s) ≡ true
-  pub b : below (2 ^ 24) (r .b) ≡ true
-  pub t : below (2 ^ 64) (r .t) ≡ true
-  pub v : below (2 ^ 64) (r .v) ≡ true
-  pub vm : r .vm < 2 ^ 64
+abbrev pub ListsOk : Registers → Type 0
+ListsOk r =
+    record {
+      a : below (2 ^ 24) (r .a) ≡ true;
+      s : below (2 ^ 64) (r .s) ≡ true;
+      b : below (2 ^ 24) (r .b) ≡ true;
+      t : below (2 ^ 64) (r .t) ≡ true;
+      v : below (2 ^ 64) (r .v) ≡ true;
+      vm : r .vm < 2 ^ 64;
+    }
 
 -- what is written fits where it goes: XA, VL, IOR and BDM in any case, all else where L holds
 abbrev pub PutOk : Type 0 → Put → Type 0
@@ -53,10 +56,6 @@ ActOk L (Reads n at put) = (word : ℕ → ℕ) → (L → (e : ℕ) → word e 
 ActOk L (Writes n at val) = L → (e : ℕ) → val e < 2 ^ 64
 ActOk L LeavesNormally = Unit {0}
 ActOk L LeavesByError = Unit {0}
-
-pub pick-lt : (b : Bool) {x y n : ℕ} → x < n → y < n → pick b x y < n
-pick-lt true h g = h
-pick-lt false h g = g
 
 -- a vector length is 1 to 64
 pub length-bounds : (x : ℕ) → (1 ≤ lengthOf x) × (lengthOf x ≤ 64)
@@ -131,96 +130,96 @@ module _ (L : Type 0) (r : Registers) (status x m past : ℕ) (k : L → Wide r 
 
   pub act-ok : (n : Instr) → ActOk L (act r status x m past n)
   unfolding act sum24 difference24 product24 sum64 difference64 merge shiftLeft shiftLeftPair shiftRightPair onesLeft onesRight parity
-  act-ok ErrorExit = tt
-  act-ok Pass = tt
-  act-ok SetXA = low _ 8
-  act-ok SetVL = length-bounds _
-  act-ok SetIOR = omega arith
-  act-ok ClearIOR = omega arith
-  act-ok ClearBDM = omega arith
-  act-ok SetBDM = omega arith
-  act-ok VMFromS = λ l. sj-lt l (jOf x)
-  act-ok NormalExit = tt
-  act-ok JumpB = tt
-  act-ok Jump = tt
-  act-ok ReturnJump = λ l. k l .narrow
-  act-ok JumpAZ = jump (eqb (ai r 0) 0)
-  act-ok JumpAN = jump (not (eqb (ai r 0) 0))
-  act-ok JumpAP = jump (not (minus24 (ai r 0)))
-  act-ok JumpAM = jump (minus24 (ai r 0))
-  act-ok JumpSZ = jump (eqb (si r 0) 0)
-  act-ok JumpSN = jump (not (eqb (si r 0) 0))
-  act-ok JumpSP = jump (not (minus64 (si r 0)))
-  act-ok JumpSM = jump (minus64 (si r 0))
-  act-ok ConstantAh = λ l. omega (arith, k l .second)
-  act-ok ConstantA = λ l. omega (arith, k l .second)
-  act-ok ComplementA = λ l. ones-sub-lt 24 _
-  act-ok ShortA = λ l. omega arith
-  act-ok AFromS = λ l. low _ 24
-  act-ok AFromVL = λ l. omega (arith, k l .most)
-  act-ok AFromB = λ l. b-lt l (jkOf x)
-  act-ok BFromA = λ l. a-lt l (iOf x)
-  act-ok AOnes = λ l. omega (arith, ones-le 64 (sj r (jOf x)) (sj-lt l (jOf x)))
-  act-ok AParity = λ l. omega arith
-  act-ok AZeros = λ l. omega (arith, leading-le 64 (sj r (jOf x)))
-  act-ok SumA = λ l. low _ 24
-  act-ok DifferenceA = λ l. low _ 24
-  act-ok ProductA = λ l. low _ 24
-  act-ok ReadB = λ word h l e. low _ 24
-  act-ok StoreB = λ l e. omega (arith, b-lt l ((jkOf x + e) % 64))
-  act-ok ReadT = λ word h. h
-  act-ok StoreT = λ l e. t-lt l ((jkOf x + e) % 64)
-  act-ok ConstantS = λ l. omega (arith, k l .second)
-  act-ok ComplementS = λ l. ones-sub-lt 64 _
-  act-ok OnesRightS = λ l. lt-of-lt-of-le (ones-lt (64 - jkOf x)) (pow-mono {j = 64} (omega arith))
-  act-ok OnesLeftS = λ l. pow-sub-lt 64 (pow-pos (64 - jkOf x))
-  act-ok AndS = λ l. and-lt 64 _ _ (sj-lt l (jOf x)) (sk-lt l (kOf x))
-  act-ok AndNotS = λ l. and-lt 64 _ _ (sj-lt l (jOf x)) (ones-sub-lt 64 _)
-  act-ok XorS = λ l. xor-lt 64 _ _ (sj-lt l (jOf x)) (sk-lt l (kOf x))
-  act-ok EqvS = λ l. ones-sub-lt 64 _
-  act-ok MergeS = λ l. or-lt 64 _ _ (and-lt 64 _ _ (sj-lt l (jOf x)) (sk-lt l (kOf x))) (and-lt 64 _ _ (s-lt l (iOf x)) (ones-sub-lt 64 _))
-  act-ok OrS = λ l. or-lt 64 _ _ (sj-lt l (jOf x)) (sk-lt l (kOf x))
-  act-ok LeftS0 = λ l. low _ 64
-  act-ok RightS0 = λ l. right-lt _ (s-lt l (iOf x))
-  act-ok LeftS = λ l. low _ 64
-  act-ok RightS = λ l. right-lt _ (s-lt l (iOf x))
-  act-ok LeftPairS = λ l. low _ 64
-  act-ok RightPairS = λ l. low _ 64
-  act-ok SumS = λ l. low _ 64
-  act-ok DifferenceS = λ l. low _ 64
-  act-ok SFromA = λ l. ak-lt l (kOf x)
-  act-ok SFromSignedA = λ l. signed-lt (ak-lt l (kOf x))
-  act-ok SFromVM = λ l. k l .lists .vm
-  act-ok Status = λ l. k l .word
-  act-ok SFromT = λ l. t-lt l (jkOf x)
-  act-ok TFromS = λ l. s-lt l (iOf x)
-  act-ok SFromV = λ l. v-lt l (jOf x) (ak r (kOf x) % 64)
-  act-ok VFromS = λ l. sj-lt l (jOf x)
-  act-ok LoadA = λ word h l. low _ 24
-  act-ok StoreA = λ l e. omega (arith, a-lt l (iOf x))
-  act-ok LoadS = λ word h l. h l 0
-  act-ok StoreS = λ l e. s-lt l (iOf x)
-  act-ok AndSV = λ l e. and-lt 64 _ _ (sj-lt l (jOf x)) (v-lt l (kOf x) e)
-  act-ok AndVV = λ l e. and-lt 64 _ _ (v-lt l (jOf x) e) (v-lt l (kOf x) e)
-  act-ok OrSV = λ l e. or-lt 64 _ _ (sj-lt l (jOf x)) (v-lt l (kOf x) e)
-  act-ok OrVV = λ l e. or-lt 64 _ _ (v-lt l (jOf x) e) (v-lt l (kOf x) e)
-  act-ok XorSV = λ l e. xor-lt 64 _ _ (sj-lt l (jOf x)) (v-lt l (kOf x) e)
-  act-ok XorVV = λ l e. xor-lt 64 _ _ (v-lt l (jOf x) e) (v-lt l (kOf x) e)
-  act-ok MergeSV = λ l e. pick-lt (masked (r .vm) e) (sj-lt l (jOf x)) (v-lt l (kOf x) e)
-  act-ok MergeVV = λ l e. pick-lt (masked (r .vm) e) (v-lt l (jOf x) e) (v-lt l (kOf x) e)
-  act-ok LeftV = λ l e. low _ 64
-  act-ok RightV = λ l e. right-lt _ (v-lt l (jOf x) e)
-  act-ok LeftPairV = λ l e. low _ 64
-  act-ok RightPairV = λ l e. low _ 64
-  act-ok SumSV = λ l e. low _ 64
-  act-ok SumVV = λ l e. low _ 64
-  act-ok DifferenceSV = λ l e. low _ 64
-  act-ok DifferenceVV = λ l e. low _ 64
-  act-ok OnesV = λ l e. omega (arith, ones-le 64 (el (r .v) (jOf x) e) (v-lt l (jOf x) e))
-  act-ok ParityV = λ l e. omega arith
-  act-ok MarkZ = λ l. marks-lt _ (r .vl) (k l .most)
-  act-ok MarkN = λ l. marks-lt _ (r .vl) (k l .most)
-  act-ok MarkP = λ l. marks-lt _ (r .vl) (k l .most)
-  act-ok MarkM = λ l. marks-lt _ (r .vl) (k l .most)
-  act-ok LoadV = λ word h. h
-  act-ok StoreV = λ l e. v-lt l (jOf x) e
+  act-ok I.ErrorExit = tt
+  act-ok I.Pass = tt
+  act-ok I.SetXA = low _ 8
+  act-ok I.SetVL = length-bounds _
+  act-ok I.SetIOR = omega arith
+  act-ok I.ClearIOR = omega arith
+  act-ok I.ClearBDM = omega arith
+  act-ok I.SetBDM = omega arith
+  act-ok I.VMFromS = λ l. sj-lt l (jOf x)
+  act-ok I.NormalExit = tt
+  act-ok I.JumpB = tt
+  act-ok I.Jump = tt
+  act-ok I.ReturnJump = λ l. k l .narrow
+  act-ok I.JumpAZ = jump (eqb (ai r 0) 0)
+  act-ok I.JumpAN = jump (not (eqb (ai r 0) 0))
+  act-ok I.JumpAP = jump (not (minus24 (ai r 0)))
+  act-ok I.JumpAM = jump (minus24 (ai r 0))
+  act-ok I.JumpSZ = jump (eqb (si r 0) 0)
+  act-ok I.JumpSN = jump (not (eqb (si r 0) 0))
+  act-ok I.JumpSP = jump (not (minus64 (si r 0)))
+  act-ok I.JumpSM = jump (minus64 (si r 0))
+  act-ok I.ConstantAh = λ l. omega (arith, k l .second)
+  act-ok I.ConstantA = λ l. omega (arith, k l .second)
+  act-ok I.ComplementA = λ l. ones-sub-lt 24 _
+  act-ok I.ShortA = λ l. omega arith
+  act-ok I.AFromS = λ l. low _ 24
+  act-ok I.AFromVL = λ l. omega (arith, k l .most)
+  act-ok I.AFromB = λ l. b-lt l (jkOf x)
+  act-ok I.BFromA = λ l. a-lt l (iOf x)
+  act-ok I.AOnes = λ l. omega (arith, ones-le 64 (sj r (jOf x)) (sj-lt l (jOf x)))
+  act-ok I.AParity = λ l. omega arith
+  act-ok I.AZeros = λ l. omega (arith, leading-le 64 (sj r (jOf x)))
+  act-ok I.SumA = λ l. low _ 24
+  act-ok I.DifferenceA = λ l. low _ 24
+  act-ok I.ProductA = λ l. low _ 24
+  act-ok I.ReadB = λ word h l e. low _ 24
+  act-ok I.StoreB = λ l e. omega (arith, b-lt l ((jkOf x + e) % 64))
+  act-ok I.ReadT = λ word h. h
+  act-ok I.StoreT = λ l e. t-lt l ((jkOf x + e) % 64)
+  act-ok I.ConstantS = λ l. omega (arith, k l .second)
+  act-ok I.ComplementS = λ l. ones-sub-lt 64 _
+  act-ok I.OnesRightS = λ l. lt-of-lt-of-le (ones-lt (64 - jkOf x)) (pow-mono {j = 64} (omega arith))
+  act-ok I.OnesLeftS = λ l. pow-sub-lt 64 (pow-pos (64 - jkOf x))
+  act-ok I.AndS = λ l. and-lt 64 _ _ (sj-lt l (jOf x)) (sk-lt l (kOf x))
+  act-ok I.AndNotS = λ l. and-lt 64 _ _ (sj-lt l (jOf x)) (ones-sub-lt 64 _)
+  act-ok I.XorS = λ l. xor-lt 64 _ _ (sj-lt l (jOf x)) (sk-lt l (kOf x))
+  act-ok I.EqvS = λ l. ones-sub-lt 64 _
+  act-ok I.MergeS = λ l. or-lt 64 _ _ (and-lt 64 _ _ (sj-lt l (jOf x)) (sk-lt l (kOf x))) (and-lt 64 _ _ (s-lt l (iOf x)) (ones-sub-lt 64 _))
+  act-ok I.OrS = λ l. or-lt 64 _ _ (sj-lt l (jOf x)) (sk-lt l (kOf x))
+  act-ok I.LeftS0 = λ l. low _ 64
+  act-ok I.RightS0 = λ l. right-lt _ (s-lt l (iOf x))
+  act-ok I.LeftS = λ l. low _ 64
+  act-ok I.RightS = λ l. right-lt _ (s-lt l (iOf x))
+  act-ok I.LeftPairS = λ l. low _ 64
+  act-ok I.RightPairS = λ l. low _ 64
+  act-ok I.SumS = λ l. low _ 64
+  act-ok I.DifferenceS = λ l. low _ 64
+  act-ok I.SFromA = λ l. ak-lt l (kOf x)
+  act-ok I.SFromSignedA = λ l. signed-lt (ak-lt l (kOf x))
+  act-ok I.SFromVM = λ l. k l .lists .vm
+  act-ok I.Status = λ l. k l .word
+  act-ok I.SFromT = λ l. t-lt l (jkOf x)
+  act-ok I.TFromS = λ l. s-lt l (iOf x)
+  act-ok I.SFromV = λ l. v-lt l (jOf x) (ak r (kOf x) % 64)
+  act-ok I.VFromS = λ l. sj-lt l (jOf x)
+  act-ok I.LoadA = λ word h l. low _ 24
+  act-ok I.StoreA = λ l e. omega (arith, a-lt l (iOf x))
+  act-ok I.LoadS = λ word h l. h l 0
+  act-ok I.StoreS = λ l e. s-lt l (iOf x)
+  act-ok I.AndSV = λ l e. and-lt 64 _ _ (sj-lt l (jOf x)) (v-lt l (kOf x) e)
+  act-ok I.AndVV = λ l e. and-lt 64 _ _ (v-lt l (jOf x) e) (v-lt l (kOf x) e)
+  act-ok I.OrSV = λ l e. or-lt 64 _ _ (sj-lt l (jOf x)) (v-lt l (kOf x) e)
+  act-ok I.OrVV = λ l e. or-lt 64 _ _ (v-lt l (jOf x) e) (v-lt l (kOf x) e)
+  act-ok I.XorSV = λ l e. xor-lt 64 _ _ (sj-lt l (jOf x)) (v-lt l (kOf x) e)
+  act-ok I.XorVV = λ l e. xor-lt 64 _ _ (v-lt l (jOf x) e) (v-lt l (kOf x) e)
+  act-ok I.MergeSV = λ l e. pick-lt (masked (r .vm) e) (sj-lt l (jOf x)) (v-lt l (kOf x) e)
+  act-ok I.MergeVV = λ l e. pick-lt (masked (r .vm) e) (v-lt l (jOf x) e) (v-lt l (kOf x) e)
+  act-ok I.LeftV = λ l e. low _ 64
+  act-ok I.RightV = λ l e. right-lt _ (v-lt l (jOf x) e)
+  act-ok I.LeftPairV = λ l e. low _ 64
+  act-ok I.RightPairV = λ l e. low _ 64
+  act-ok I.SumSV = λ l e. low _ 64
+  act-ok I.SumVV = λ l e. low _ 64
+  act-ok I.DifferenceSV = λ l e. low _ 64
+  act-ok I.DifferenceVV = λ l e. low _ 64
+  act-ok I.OnesV = λ l e. omega (arith, ones-le 64 (el (r .v) (jOf x) e) (v-lt l (jOf x) e))
+  act-ok I.ParityV = λ l e. omega arith
+  act-ok I.MarkZ = λ l. marks-lt _ (r .vl) (k l .most)
+  act-ok I.MarkN = λ l. marks-lt _ (r .vl) (k l .most)
+  act-ok I.MarkP = λ l. marks-lt _ (r .vl) (k l .most)
+  act-ok I.MarkM = λ l. marks-lt _ (r .vl) (k l .most)
+  act-ok I.LoadV = λ word h. h
+  act-ok I.StoreV = λ l e. v-lt l (jOf x) e

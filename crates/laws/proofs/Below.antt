@@ -1,7 +1,7 @@
--- Lists of numbers below n, and what keeps them so. Assumes nothing.
+-- Numbers and lists of numbers below n, and what keeps them so. Assumes nothing.
 use Prim.Native.Nat.{ℕ, zero, suc, _+_, _%_, _^_, _<_}
 use mathlib.Core.Path.{_≡_, refl}
-use mathlib.Core.Bool.{true, and-eq-true-iff}
+use mathlib.Core.Bool.{Bool, true, false, and-eq-true-iff}
 use mathlib.Core.List.{List, [], _∷_}
 use native.Mathlib.Nat.{mod-lt}
 use lib.ListN.{length, getD, set}
@@ -10,11 +10,20 @@ use lib.Pow.{pow-pos}
 use borrow.Author.Tests.{lt-ltb, ltb-true}
 use Rattle.machine.specs.declared.Place.{Place}
 use Rattle.machine.specs.declared.Place.the-variants.{At, Beyond}
+use Rattle.machine.specs.Word.{pick}
 use Rattle.machine.specs.State.{fill, ring}
 use Rattle.machine.specs.Memory.{Field, placeOf, loadAt, storeAt, load, store, stores}
 use Rattle.machine.specs.Exchange.{eight}
 use Rattle.machine.specs.Run.{zeros}
 use Rattle.machine.specs.Refusal.{below}
+
+-- what holds of both holds of the one that is picked
+pub picked : {A : Type 0} (Q : A → Type 0) (b : Bool) {x y : A} → Q x → Q y → Q (pick b x y)
+picked Q true h g = h
+picked Q false h g = g
+
+pub pick-lt : (b : Bool) {x y n : ℕ} → x < n → y < n → pick b x y < n
+pick-lt b {n = n} h g = picked (λ x. x < n) b h g
 
 -- the low w bits of a number
 pub low : (x w : ℕ) → x % 2 ^ w < 2 ^ w

@@ -1,7 +1,7 @@
 -- What holds of the work of every step, of what a package loads, and of a step that stops. Assumes nothing.
-use Prim.Native.Nat.{ℕ, zero, suc, _+_, _*_, _%_, _^_, _<_, _≤_}
+use Prim.Native.Nat.{ℕ, zero, suc, _^_, _<_, _≤_}
 use mathlib.Core.Path.{_≡_, refl, _∙_, ap}
-use mathlib.Core.Bool.{Bool, true, false, _&&_, false≢true}
+use mathlib.Core.Bool.{Bool, true, _&&_, false≢true}
 use mathlib.Core.List.{List}
 use native.Mathlib.Omega.{arith}
 use lib.ListN.{length, length-set}
@@ -11,7 +11,6 @@ use Rattle.machine.specs.declared.Place.the-variants.{At, Beyond}
 use Rattle.machine.specs.declared.Work.{Work}
 use Rattle.machine.specs.declared.Work.the-variants.{PastOne, PastTwo, To, NormalExit, ErrorExit, OperandRange, ProgramRange, NotHeld, MonitorFetch}
 use Rattle.machine.specs.declared.Answer.{Answer}
-use Rattle.machine.specs.Word.{pick}
 use Rattle.machine.specs.Parcel.{wordOf, onward}
 use Rattle.machine.specs.State.{Frame, Registers, State, Shared, user, Put, Nothing, ToA, ToS, ToB, ToT, ToBs, ToTs, ToV, ToElement, ToVL, ToVM, ToXA, ToIOR, ToBDM, apply}
 use Rattle.machine.specs.Memory.{Field, codeField, dataField, placeOf, load, storeAt, store, stores, parcelAt, fetchOf}
@@ -21,7 +20,7 @@ use Rattle.machine.specs.Work.{Present, Has, withParcel, decoded, presentOf, Do
 use Rattle.machine.specs.Exchange.{loaded}
 use Rattle.machine.specs.Step.{out, exchange, finish, finishOf, stepOf, stops}
 use Rattle.access.specs.Executed.{FrameOk, ControlOk}
-use Rattle.laws.proofs.Below.{low}
+use Rattle.laws.proofs.Below.{picked, low}
 use Rattle.laws.proofs.Acts.{PutOk, ActOk, length-bounds, act-ok}
 
 -- What holds of all that an instruction performs, of a parcel not held and of a parcel outside, holds of the work of every step.
@@ -30,7 +29,8 @@ module _ (fr : Frame) (r : Registers) (p : ℕ) (sh : Shared) (Q : Done → Type
     (unheld : Q (done NotHeld r sh))
     (lost : Q (done (noParcel (user fr)) r sh)) where
   -- a parcel that is fetched has 16 bits
-  fetched-all : (q : ℕ) (f : ℕ → Present) → ((m : ℕ) → m < 2 ^ 16 → Q (doneWith fr r p sh (f m))) → Q (doneWith fr r p sh (withParcel (fetchOf fr (sh .mem) q) f))
+  fetched-all : (q : ℕ) (f : ℕ → Present) → ((m : ℕ) → m < 2 ^ 16 → Q (doneWith fr r p sh (f m)))
+      → Q (doneWith fr r p sh (withParcel (fetchOf fr (sh .mem) q) f))
   unfolding fetchOf doneWith
   fetched-all q f h = go (placeOf (codeField fr) (length (sh .mem)) (wordOf q))
     where
@@ -77,19 +77,11 @@ abbrev Acted : Work → Type 0
 Acted w = Narrow w × (Idle w → ⊥)
 
 past-acted : (parcels : ℕ) → Acted (past parcels)
-past-acted parcels = go (eqb parcels 1)
-  where
-    go : (t : Bool) → Acted (pick t PastOne PastTwo)
-    go true = (tt, λ z. z)
-    go false = (tt, λ z. z)
+past-acted parcels = picked Acted (eqb parcels 1) (tt, λ z. z) (tt, λ z. z)
 
 ranged-acted : (u : Bool) (ior parcels : ℕ) (o : Bool) → parcels ≤ 2 → Acted (ranged u ior parcels o)
 unfolding ranged
-ranged-acted u ior parcels o l = go (o && u && eqb ior 1)
-  where
-    go : (t : Bool) → Acted (pick t (OperandRange parcels) (past parcels))
-    go true = (l, λ z. z)
-    go false = past-acted parcels
+ranged-acted u ior parcels o l = picked Acted (o && u && eqb ior 1) (l, λ z. z) (past-acted parcels)
 
 perform-acted : (fr : Frame) (r : Registers) (parcels : ℕ) (sh : Shared) (a : Act) → parcels ≤ 2 → Acted (perform fr r parcels sh a .work)
 unfolding perform
@@ -102,8 +94,7 @@ perform-acted fr r parcels sh LeavesByError l = (tt, λ z. z)
 
 no-parcel-narrow : (user : Bool) → Narrow (noParcel user)
 unfolding noParcel
-no-parcel-narrow true = tt
-no-parcel-narrow false = tt
+no-parcel-narrow user = picked Narrow user tt tt
 
 -- XA, VL, IOR and BDM keep their widths
 others : (r : Registers) → ControlOk r → {a s b t v : List ℕ} {vm : ℕ}
@@ -190,22 +181,21 @@ module _ (fr : Frame) (r : Registers) (p : ℕ) (sh : Shared) where
 pub loaded-ok : (mem : List ℕ) (x : ℕ) (r : Registers) (fr : Frame)
     → ControlOk (loaded mem x r fr .registers) × FrameOk (loaded mem x r fr .frame) × (loaded mem x r fr .p .0 < 2 ^ 24)
 unfolding loaded
-loaded-ok mem x r fr =
-    (
-      record { narrow = low _ 8; least = length-bounds _ .0; most = length-bounds _ .1; interrupt = low _ 1; bidirectional = low _ 1 },
-      record {
-        iba = low _ 17;
-        ila = low _ 17;
-        dba = low _ 17;
-        dla = low _ 17;
-        mm = low _ 1;
-        ifp = low _ 1;
-        fps = low _ 1;
-        ps = low _ 1;
-        cln = low _ 2;
-      },
-      low _ 24,
-    )
+loaded-ok mem x r fr = (
+  record { narrow = low _ 8; least = length-bounds _ .0; most = length-bounds _ .1; interrupt = low _ 1; bidirectional = low _ 1 },
+  record {
+    iba = low _ 17;
+    ila = low _ 17;
+    dba = low _ 17;
+    dla = low _ 17;
+    mm = low _ 1;
+    ifp = low _ 1;
+    fps = low _ 1;
+    ps = low _ 1;
+    cln = low _ 2;
+  },
+  low _ 24,
+)
 
 -- a step that stops leaves the state and what is shared
 finish-stop : (st : State) (w : Work) (r : Registers) (sh sh' : Shared) → (Idle w → sh' ≡ sh) → stops (finish st w r sh' .answer) ≡ true

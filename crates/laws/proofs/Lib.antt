@@ -1,3 +1,4 @@
 pub mod Below
 pub mod Acts
 pub mod Laws
+pub mod Kept
