@@ -48,11 +48,28 @@ PutOk L (ToXA x) = x < 2 ^ 8
 PutOk L (ToIOR x) = x < 2
 PutOk L (ToBDM x) = x < 2
 
--- so does what is made of words of memory, and what is stored
+-- it goes to A, S, B, T or V, if anywhere
+abbrev pub Filed : Put → Type 0
+Filed Nothing = Unit {0}
+Filed (ToA i x) = Unit {0}
+Filed (ToS i x) = Unit {0}
+Filed (ToB jk x) = Unit {0}
+Filed (ToT jk x) = Unit {0}
+Filed (ToBs first n x) = Unit {0}
+Filed (ToTs first n x) = Unit {0}
+Filed (ToV i x) = Unit {0}
+Filed (ToElement i e x) = Unit {0}
+Filed (ToVL x) = ⊥
+Filed (ToVM x) = ⊥
+Filed (ToXA x) = ⊥
+Filed (ToIOR x) = ⊥
+Filed (ToBDM x) = ⊥
+
+-- what is stored fits too; and so does what is made of words of memory, which is filed
 abbrev pub ActOk : Type 0 → Act → Type 0
 ActOk L (Does put) = PutOk L put
 ActOk L (Goes q put) = PutOk L put
-ActOk L (Reads n at put) = (word : ℕ → ℕ) → (L → (e : ℕ) → word e < 2 ^ 64) → PutOk L (put word)
+ActOk L (Reads n at put) = (word : ℕ → ℕ) → Filed (put word) × ((L → (e : ℕ) → word e < 2 ^ 64) → PutOk L (put word))
 ActOk L (Writes n at val) = L → (e : ℕ) → val e < 2 ^ 64
 ActOk L LeavesNormally = Unit {0}
 ActOk L LeavesByError = Unit {0}
@@ -165,9 +182,9 @@ module _ (L : Type 0) (r : Registers) (status x m past : ℕ) (k : L → Wide r 
   act-ok I.SumA = λ l. low _ 24
   act-ok I.DifferenceA = λ l. low _ 24
   act-ok I.ProductA = λ l. low _ 24
-  act-ok I.ReadB = λ word h l e. low _ 24
+  act-ok I.ReadB = λ word. (tt, λ h l e. low _ 24)
   act-ok I.StoreB = λ l e. omega (arith, b-lt l ((jkOf x + e) % 64))
-  act-ok I.ReadT = λ word h. h
+  act-ok I.ReadT = λ word. (tt, λ h. h)
   act-ok I.StoreT = λ l e. t-lt l ((jkOf x + e) % 64)
   act-ok I.ConstantS = λ l. omega (arith, k l .second)
   act-ok I.ComplementS = λ l. ones-sub-lt 64 _
@@ -195,9 +212,9 @@ module _ (L : Type 0) (r : Registers) (status x m past : ℕ) (k : L → Wide r 
   act-ok I.TFromS = λ l. s-lt l (iOf x)
   act-ok I.SFromV = λ l. v-lt l (jOf x) (ak r (kOf x) % 64)
   act-ok I.VFromS = λ l. sj-lt l (jOf x)
-  act-ok I.LoadA = λ word h l. low _ 24
+  act-ok I.LoadA = λ word. (tt, λ h l. low _ 24)
   act-ok I.StoreA = λ l e. omega (arith, a-lt l (iOf x))
-  act-ok I.LoadS = λ word h l. h l 0
+  act-ok I.LoadS = λ word. (tt, λ h l. h l 0)
   act-ok I.StoreS = λ l e. s-lt l (iOf x)
   act-ok I.AndSV = λ l e. and-lt 64 _ _ (sj-lt l (jOf x)) (v-lt l (kOf x) e)
   act-ok I.AndVV = λ l e. and-lt 64 _ _ (v-lt l (jOf x) e) (v-lt l (kOf x) e)
@@ -221,5 +238,5 @@ module _ (L : Type 0) (r : Registers) (status x m past : ℕ) (k : L → Wide r 
   act-ok I.MarkN = λ l. marks-lt _ (r .vl) (k l .most)
   act-ok I.MarkP = λ l. marks-lt _ (r .vl) (k l .most)
   act-ok I.MarkM = λ l. marks-lt _ (r .vl) (k l .most)
-  act-ok I.LoadV = λ word h. h
+  act-ok I.LoadV = λ word. (tt, λ h. h)
   act-ok I.StoreV = λ l e. v-lt l (jOf x) e

@@ -67,7 +67,7 @@ perform-lists fr r parcels sh (Does put) h k e = (apply-lists put r h k, e)
 perform-lists fr r parcels sh (Goes q put) h k e = (apply-lists put r h k, e)
 perform-lists fr r parcels sh (Reads n at put) h k e =
     let word : ℕ → ℕ = λ i. load (dataField fr) (sh .mem) (at i) in
-    (apply-lists (put word) r (h word (λ l i. load-lt (dataField fr) (sh .mem) (at i) e)) k, e)
+    (apply-lists (put word) r (h word .1 (λ l i. load-lt (dataField fr) (sh .mem) (at i) e)) k, e)
 perform-lists fr r parcels sh (Writes n at val) h k e = (k, below-stores (2 ^ 64) val (h tt) (dataField fr) at n (sh .mem) e)
 perform-lists fr r parcels sh LeavesNormally h k e = (k, e)
 perform-lists fr r parcels sh LeavesByError h k e = (k, e)

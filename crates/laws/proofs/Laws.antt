@@ -83,7 +83,7 @@ ranged-acted : (u : Bool) (ior parcels : ℕ) (o : Bool) → parcels ≤ 2 → A
 unfolding ranged
 ranged-acted u ior parcels o l = picked Acted (o && u && eqb ior 1) (l, λ z. z) (past-acted parcels)
 
-perform-acted : (fr : Frame) (r : Registers) (parcels : ℕ) (sh : Shared) (a : Act) → parcels ≤ 2 → Acted (perform fr r parcels sh a .work)
+pub perform-acted : (fr : Frame) (r : Registers) (parcels : ℕ) (sh : Shared) (a : Act) → parcels ≤ 2 → Acted (perform fr r parcels sh a .work)
 unfolding perform
 perform-acted fr r parcels sh (Does put) l = past-acted parcels
 perform-acted fr r parcels sh (Goes q put) l = (low q 24, λ z. z)
@@ -128,7 +128,7 @@ perform-ok fr r parcels sh (Does put) h k = apply-ok ⊥ put r h k
 perform-ok fr r parcels sh (Goes q put) h k = apply-ok ⊥ put r h k
 perform-ok fr r parcels sh (Reads n at put) h k =
     let word : ℕ → ℕ = λ e. load (dataField fr) (sh .mem) (at e) in
-    apply-ok ⊥ (put word) r (h word (λ z. absurd z)) k
+    apply-ok ⊥ (put word) r (h word .1 (λ z. absurd z)) k
 perform-ok fr r parcels sh (Writes n at val) h k = k
 perform-ok fr r parcels sh LeavesNormally h k = k
 perform-ok fr r parcels sh LeavesByError h k = k
