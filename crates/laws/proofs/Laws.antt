@@ -1,133 +1,137 @@
--- What holds of every instruction, by what instructions ask and not by the instructions. Assumes nothing.
-use Prim.Native.Nat.{ℕ, zero, suc, _^_, _<_}
-use mathlib.Core.Path.{_≡_, refl, sym, _∙_, ap}
-use mathlib.Core.Bool.{Bool, true, false, _&&_}
+-- What holds of the work of every step, of what a package loads, and of a step that stops. Assumes nothing.
+use Prim.Native.Nat.{ℕ, zero, suc, _^_, _<_, _≤_}
+use mathlib.Core.Path.{_≡_, refl, _∙_, ap}
+use mathlib.Core.Bool.{Bool, true, _&&_, false≢true}
 use mathlib.Core.List.{List}
 use native.Mathlib.Omega.{arith}
 use lib.ListN.{length, length-set}
 use lib.Dec.{eqb}
-use Rattle.machine.specs.declared.Frame.{Frame}
-use Rattle.machine.specs.declared.Registers.{Registers}
-use Rattle.machine.specs.declared.State.{State}
 use Rattle.machine.specs.declared.Place.{Place}
 use Rattle.machine.specs.declared.Place.the-variants.{At, Beyond}
-use Rattle.machine.specs.declared.Fetched.{Fetched}
-use Rattle.machine.specs.declared.Fetched.the-variants.{Parcel, Outside}
 use Rattle.machine.specs.declared.Work.{Work}
-use Rattle.machine.specs.declared.Work.the-variants.{Next, NormalExit, ErrorExit, OperandRange, ProgramRange, Unheld, Unfetched}
+use Rattle.machine.specs.declared.Work.the-variants.{PastOne, PastTwo, To, NormalExit, ErrorExit, OperandRange, ProgramRange, NotHeld, MonitorFetch}
 use Rattle.machine.specs.declared.Answer.{Answer}
-use Rattle.machine.specs.declared.Answer.the-variants.{Stepped, Exchanged, NotHeld, MonitorFetch}
-use Rattle.machine.specs.Word.{pick}
-use Rattle.machine.specs.Parcel.{onward}
-use Rattle.machine.specs.State.{user, bit, Put, Nothing, ToA, ToS, ToB, ToT, ToBs, ToTs, ToV, ToElement, ToVL, ToVM, ToIOR, ToBDM, apply}
-use Rattle.machine.specs.Memory.{Field, dataField, placeOf, load, storeAt, store, stores, anyOutside, fetchOf}
-use Rattle.machine.specs.Act.{Act, Does, Goes, NewXA, Reads, Writes, LeavesNormally, LeavesByError, act}
+use Rattle.machine.specs.Parcel.{wordOf, onward}
+use Rattle.machine.specs.State.{Frame, Registers, State, Shared, user, Put, Nothing, ToA, ToS, ToB, ToT, ToBs, ToTs, ToV, ToElement, ToVL, ToVM, ToXA, ToIOR, ToBDM, apply}
+use Rattle.machine.specs.Memory.{Field, codeField, dataField, placeOf, load, storeAt, store, stores, parcelAt, fetchOf}
+use Rattle.machine.specs.Act.{Instr, Act, Does, Goes, Reads, Writes, LeavesNormally, LeavesByError, act}
 use Rattle.machine.specs.Codes.{Code, None, One, Two, codeOf}
-use Rattle.machine.specs.Work.{Done, done, parcel, ranged, perform, noParcel, withParcel, execute, workOf}
-use Rattle.machine.specs.Step.{out, exchange, finish, finishOf, stepOf}
-use Rattle.machine.specs.Call.{Called, stepCall}
-use Rattle.access.specs.Layout.{ControlOk}
-use Rattle.access.proofs.Laws.{length-bounds}
+use Rattle.machine.specs.Work.{Present, Has, withParcel, decoded, presentOf, Done, done, past, outside, ranged, perform, statusOf, noParcel, doneWith, workOf}
+use Rattle.machine.specs.Exchange.{loaded}
+use Rattle.machine.specs.Step.{out, exchange, finish, finishOf, stepOf, stops}
+use Rattle.access.specs.Executed.{FrameOk, ControlOk}
+use Rattle.laws.proofs.Below.{picked, low}
+use Rattle.laws.proofs.Acts.{PutOk, ActOk, length-bounds, act-ok}
 
--- What holds of all that an act performs, of a parcel not held and of a parcel outside, holds of the work of every step.
-module _ (fr : Frame) (r : Registers) (p : ℕ) (mem : List ℕ) (Q : Done → Type 0)
-    (acts : (past : ℕ) (a : Act) → past < 2 ^ 24 → Q (perform fr r past mem a))
-    (unheld : Q (done Unheld r mem))
-    (lost : Q (done (noParcel (user fr)) r mem)) where
-  execute-all : (c : Code) (x : ℕ) → Q (execute fr r p mem c x)
-  unfolding execute
-  execute-all None x = unheld
-  execute-all (One n) x = acts (onward p 1) (act n fr r x 0 (onward p 1)) (omega arith)
-  execute-all (Two n) x = go (fetchOf fr mem (onward p 1))
+-- What holds of all that an instruction performs, of a parcel not held and of a parcel outside, holds of the work of every step.
+module _ (fr : Frame) (r : Registers) (p : ℕ) (sh : Shared) (Q : Done → Type 0)
+    (acts : (n : Instr) (x m parcels : ℕ) → m < 2 ^ 16 → parcels ≤ 2 → Q (perform fr r parcels sh (act r (statusOf fr r) x m (onward p parcels) n)))
+    (unheld : Q (done NotHeld r sh))
+    (lost : Q (done (noParcel (user fr)) r sh)) where
+  -- a parcel that is fetched has 16 bits
+  fetched-all : (q : ℕ) (f : ℕ → Present) → ((m : ℕ) → m < 2 ^ 16 → Q (doneWith fr r p sh (f m)))
+      → Q (doneWith fr r p sh (withParcel (fetchOf fr (sh .mem) q) f))
+  unfolding fetchOf doneWith
+  fetched-all q f h = go (placeOf (codeField fr) (length (sh .mem)) (wordOf q))
     where
-      go : (o : Fetched) → Q (withParcel o (done (noParcel (user fr)) r mem) (λ m. perform fr r (onward p 2) mem (act n fr r x m (onward p 2))))
-      go Outside = lost
-      go (Parcel m) = acts (onward p 2) (act n fr r x m (onward p 2)) (omega arith)
+      go : (o : Place) → Q (doneWith fr r p sh (withParcel (parcelAt (sh .mem) q o) f))
+      go (At n) = h _ (low _ 16)
+      go Beyond = lost
 
-  work-all : Q (workOf fr r p mem)
-  unfolding workOf
-  work-all = go (fetchOf fr mem p)
-    where
-      go : (o : Fetched) → Q (withParcel o (done (noParcel (user fr)) r mem) (λ x. execute fr r p mem (codeOf (user fr) x) x))
-      go Outside = lost
-      go (Parcel x) = execute-all (codeOf (user fr) x) x
+  decoded-all : (x : ℕ) (c : Code) → Q (doneWith fr r p sh (decoded fr (sh .mem) p x c))
+  unfolding decoded doneWith
+  decoded-all x None = unheld
+  decoded-all x (One n) = acts n x 0 1 (omega arith) (omega arith)
+  decoded-all x (Two n) = fetched-all (onward p 1) (λ m. Has n x m 2) (λ m l. acts n x m 2 l (omega arith))
 
--- where P goes has 24 bits
+  pub work-all : Q (workOf fr r p sh)
+  unfolding workOf presentOf
+  work-all = fetched-all p (λ x. decoded fr (sh .mem) p x (codeOf (user fr) x)) (λ x l. decoded-all x (codeOf (user fr) x))
+
+-- where P goes has 24 bits, and an instruction at most two parcels
 abbrev pub Narrow : Work → Type 0
-Narrow (Next q) = q .0 < 2 ^ 24
-Narrow (NormalExit q) = q .0 < 2 ^ 24
-Narrow (ErrorExit q) = q .0 < 2 ^ 24
-Narrow (OperandRange q) = q .0 < 2 ^ 24
+Narrow PastOne = Unit {0}
+Narrow PastTwo = Unit {0}
+Narrow (To q) = q .0 < 2 ^ 24
+Narrow NormalExit = Unit {0}
+Narrow ErrorExit = Unit {0}
+Narrow (OperandRange n) = n ≤ 2
 Narrow ProgramRange = Unit {0}
-Narrow Unheld = Unit {0}
-Narrow Unfetched = Unit {0}
+Narrow NotHeld = Unit {0}
+Narrow MonitorFetch = Unit {0}
+
+-- nothing was done: no instruction of the list, or no parcel
+abbrev pub Idle : Work → Type 0
+Idle PastOne = ⊥
+Idle PastTwo = ⊥
+Idle (To q) = ⊥
+Idle NormalExit = ⊥
+Idle ErrorExit = ⊥
+Idle (OperandRange n) = ⊥
+Idle ProgramRange = Unit {0}
+Idle NotHeld = Unit {0}
+Idle MonitorFetch = Unit {0}
+
+-- what an instruction performs is narrow, and something
+abbrev Acted : Work → Type 0
+Acted w = Narrow w × (Idle w → ⊥)
+
+past-acted : (parcels : ℕ) → Acted (past parcels)
+past-acted parcels = picked Acted (eqb parcels 1) (tt, λ z. z) (tt, λ z. z)
+
+ranged-acted : (u : Bool) (ior parcels : ℕ) (o : Bool) → parcels ≤ 2 → Acted (ranged u ior parcels o)
+unfolding ranged
+ranged-acted u ior parcels o l = picked Acted (o && u && eqb ior 1) (l, λ z. z) (past-acted parcels)
+
+pub perform-acted : (fr : Frame) (r : Registers) (parcels : ℕ) (sh : Shared) (a : Act) → parcels ≤ 2 → Acted (perform fr r parcels sh a .work)
+unfolding perform
+perform-acted fr r parcels sh (Does put) l = past-acted parcels
+perform-acted fr r parcels sh (Goes q put) l = (low q 24, λ z. z)
+perform-acted fr r parcels sh (Reads n at put) l = ranged-acted (user fr) (r .ior) parcels (outside fr (sh .mem) (Reads n at put)) l
+perform-acted fr r parcels sh (Writes n at val) l = ranged-acted (user fr) (r .ior) parcels (outside fr (sh .mem) (Writes n at val)) l
+perform-acted fr r parcels sh LeavesNormally l = (tt, λ z. z)
+perform-acted fr r parcels sh LeavesByError l = (tt, λ z. z)
 
 no-parcel-narrow : (user : Bool) → Narrow (noParcel user)
 unfolding noParcel
-no-parcel-narrow true = tt
-no-parcel-narrow false = tt
-
-ranged-narrow : (u : Bool) (ior past : ℕ) (o : Bool) → past < 2 ^ 24 → Narrow (ranged u ior past o)
-unfolding ranged
-ranged-narrow u ior past o l = go (o && u && eqb ior 1)
-  where
-    go : (t : Bool) → Narrow (pick t (OperandRange (parcel past)) (Next (parcel past)))
-    go true = l
-    go false = l
-
-perform-narrow : (fr : Frame) (r : Registers) (past : ℕ) (mem : List ℕ) (a : Act) → past < 2 ^ 24 → Narrow (perform fr r past mem a .work)
-unfolding perform
-perform-narrow fr r past mem (Does u) l = l
-perform-narrow fr r past mem (Goes q u) l = omega arith
-perform-narrow fr r past mem (NewXA x) l = l
-perform-narrow fr r past mem (Reads n at put) l = ranged-narrow (user fr) (r .ior) past (anyOutside (dataField fr) at (length mem) n) l
-perform-narrow fr r past mem (Writes n at val) l = ranged-narrow (user fr) (r .ior) past (anyOutside (dataField fr) at (length mem) n) l
-perform-narrow fr r past mem LeavesNormally l = l
-perform-narrow fr r past mem LeavesByError l = l
+no-parcel-narrow user = picked Narrow user tt tt
 
 -- XA, VL, IOR and BDM keep their widths
-abbrev pub RegistersOk : Registers → Type 0
-RegistersOk r = ControlOk (r .xa) (r .vl) (r .ior) (r .bdm)
+others : (r : Registers) → ControlOk r → {a s b t v : List ℕ} {vm : ℕ}
+    → ControlOk (record { a = a; s = s; b = b; t = t; v = v; xa = r .xa; vl = r .vl; vm = vm; ior = r .ior; bdm = r .bdm })
+others r k = record { narrow = k .narrow; least = k .least; most = k .most; interrupt = k .interrupt; bidirectional = k .bidirectional }
 
-bit-lt : (b : Bool) → bit b < 2
-bit-lt true = omega arith
-bit-lt false = omega arith
-
-apply-ok : (u : Put) (r : Registers) → RegistersOk r → RegistersOk (apply u r)
+apply-ok : (L : Type 0) (u : Put) (r : Registers) → PutOk L u → ControlOk r → ControlOk (apply u r)
 unfolding apply
-apply-ok Nothing r k = k
-apply-ok (ToA i x) r k = k
-apply-ok (ToS i x) r k = k
-apply-ok (ToB n x) r k = k
-apply-ok (ToT n x) r k = k
-apply-ok (ToBs first n f) r k = k
-apply-ok (ToTs first n f) r k = k
-apply-ok (ToV i f) r k = k
-apply-ok (ToElement i e x) r k = k
-apply-ok (ToVL x) r k =
-    record {
-      narrow = k .narrow;
-      least = length-bounds x .0;
-      most = length-bounds x .1;
-      interrupt = k .interrupt;
-      bidirectional = k .bidirectional;
-    }
-apply-ok (ToVM x) r k = k
-apply-ok (ToIOR x) r k =
-    record { narrow = k .narrow; least = k .least; most = k .most; interrupt = bit-lt x; bidirectional = k .bidirectional }
-apply-ok (ToBDM x) r k =
-    record { narrow = k .narrow; least = k .least; most = k .most; interrupt = k .interrupt; bidirectional = bit-lt x }
+apply-ok L Nothing r h k = k
+apply-ok L (ToA i x) r h k = others r k
+apply-ok L (ToS i x) r h k = others r k
+apply-ok L (ToB jk x) r h k = others r k
+apply-ok L (ToT jk x) r h k = others r k
+apply-ok L (ToBs first n x) r h k = others r k
+apply-ok L (ToTs first n x) r h k = others r k
+apply-ok L (ToV i x) r h k = others r k
+apply-ok L (ToElement i e x) r h k = others r k
+apply-ok L (ToVL x) r h k =
+    record { narrow = k .narrow; least = h .0; most = h .1; interrupt = k .interrupt; bidirectional = k .bidirectional }
+apply-ok L (ToVM x) r h k = others r k
+apply-ok L (ToXA x) r h k =
+    record { narrow = h; least = k .least; most = k .most; interrupt = k .interrupt; bidirectional = k .bidirectional }
+apply-ok L (ToIOR x) r h k =
+    record { narrow = k .narrow; least = k .least; most = k .most; interrupt = h; bidirectional = k .bidirectional }
+apply-ok L (ToBDM x) r h k =
+    record { narrow = k .narrow; least = k .least; most = k .most; interrupt = k .interrupt; bidirectional = h }
 
-perform-ok : (fr : Frame) (r : Registers) (past : ℕ) (mem : List ℕ) (a : Act) → RegistersOk r → RegistersOk (perform fr r past mem a .registers)
+perform-ok : (fr : Frame) (r : Registers) (parcels : ℕ) (sh : Shared) (a : Act) → ActOk ⊥ a → ControlOk r → ControlOk (perform fr r parcels sh a .registers)
 unfolding perform
-perform-ok fr r past mem (Does u) k = apply-ok u r k
-perform-ok fr r past mem (Goes q u) k = apply-ok u r k
-perform-ok fr r past mem (NewXA x) k =
-    record { narrow = omega arith; least = k .least; most = k .most; interrupt = k .interrupt; bidirectional = k .bidirectional }
-perform-ok fr r past mem (Reads n at put) k = apply-ok (put (λ e. load (dataField fr) mem (at e))) r k
-perform-ok fr r past mem (Writes n at val) k = k
-perform-ok fr r past mem LeavesNormally k = k
-perform-ok fr r past mem LeavesByError k = k
+perform-ok fr r parcels sh (Does put) h k = apply-ok ⊥ put r h k
+perform-ok fr r parcels sh (Goes q put) h k = apply-ok ⊥ put r h k
+perform-ok fr r parcels sh (Reads n at put) h k =
+    let word : ℕ → ℕ = λ e. load (dataField fr) (sh .mem) (at e) in
+    apply-ok ⊥ (put word) r (h word .1 (λ z. absurd z)) k
+perform-ok fr r parcels sh (Writes n at val) h k = k
+perform-ok fr r parcels sh LeavesNormally h k = k
+perform-ok fr r parcels sh LeavesByError h k = k
 
 -- memory keeps its length
 stores-length : (f : Field) (at val : ℕ → ℕ) (n : ℕ) (mem : List ℕ) → length (stores f at val n mem) ≡ length mem
@@ -141,90 +145,76 @@ stores-length f at val (suc n) mem =
     go m (At w) = length-set m w (val n)
     go m Beyond = refl
 
-perform-length : (fr : Frame) (r : Registers) (past : ℕ) (mem : List ℕ) (a : Act) → length (perform fr r past mem a .mem) ≡ length mem
+perform-length : (fr : Frame) (r : Registers) (parcels : ℕ) (sh : Shared) (a : Act) → length (perform fr r parcels sh a .shared .mem) ≡ length (sh .mem)
 unfolding perform
-perform-length fr r past mem (Does u) = refl
-perform-length fr r past mem (Goes q u) = refl
-perform-length fr r past mem (NewXA x) = refl
-perform-length fr r past mem (Reads n at put) = refl
-perform-length fr r past mem (Writes n at val) = stores-length (dataField fr) at val n mem
-perform-length fr r past mem LeavesNormally = refl
-perform-length fr r past mem LeavesByError = refl
+perform-length fr r parcels sh (Does put) = refl
+perform-length fr r parcels sh (Goes q put) = refl
+perform-length fr r parcels sh (Reads n at put) = refl
+perform-length fr r parcels sh (Writes n at val) = stores-length (dataField fr) at val n (sh .mem)
+perform-length fr r parcels sh LeavesNormally = refl
+perform-length fr r parcels sh LeavesByError = refl
 
--- nothing was done: no instruction of the list, or no parcel
-abbrev pub Idle : Work → Type 0
-Idle (Next q) = ⊥
-Idle (NormalExit q) = ⊥
-Idle (ErrorExit q) = ⊥
-Idle (OperandRange q) = ⊥
-Idle ProgramRange = Unit {0}
-Idle Unheld = Unit {0}
-Idle Unfetched = Unit {0}
-
-ranged-acts : (u : Bool) (ior past : ℕ) (o : Bool) → Idle (ranged u ior past o) → ⊥
-unfolding ranged
-ranged-acts u ior past o = go (o && u && eqb ior 1)
-  where
-    go : (t : Bool) → Idle (pick t (OperandRange (parcel past)) (Next (parcel past))) → ⊥
-    go true z = z
-    go false z = z
-
-perform-acts : (fr : Frame) (r : Registers) (past : ℕ) (mem : List ℕ) (a : Act) → Idle (perform fr r past mem a .work) → ⊥
-unfolding perform
-perform-acts fr r past mem (Does u) z = z
-perform-acts fr r past mem (Goes q u) z = z
-perform-acts fr r past mem (NewXA x) z = z
-perform-acts fr r past mem (Reads n at put) z = ranged-acts (user fr) (r .ior) past (anyOutside (dataField fr) at (length mem) n) z
-perform-acts fr r past mem (Writes n at val) z = ranged-acts (user fr) (r .ior) past (anyOutside (dataField fr) at (length mem) n) z
-perform-acts fr r past mem LeavesNormally z = z
-perform-acts fr r past mem LeavesByError z = z
-
-module _ (fr : Frame) (r : Registers) (p : ℕ) (mem : List ℕ) where
+module _ (fr : Frame) (r : Registers) (p : ℕ) (sh : Shared) where
   -- wherever the work of a step leaves P
-  pub work-p : {w : Work} → workOf fr r p mem .work ≡ w → Narrow w
+  pub work-p : {w : Work} → workOf fr r p sh .work ≡ w → Narrow w
   work-p e =
       rw e at
-      (work-all fr r p mem (λ d. Narrow (d .work)) (λ past a l. perform-narrow fr r past mem a l) tt (no-parcel-narrow (user fr)))
+      (work-all fr r p sh (λ d. Narrow (d .work)) (λ n x m parcels h l. perform-acted fr r parcels sh _ l .0) tt (no-parcel-narrow (user fr)))
 
-  pub work-ok : RegistersOk r → RegistersOk (workOf fr r p mem .registers)
-  work-ok k = work-all fr r p mem (λ d. RegistersOk (d .registers)) (λ past a l. perform-ok fr r past mem a k) k k
+  pub work-ok : ControlOk r → ControlOk (workOf fr r p sh .registers)
+  work-ok k =
+      work-all fr r p sh (λ d. ControlOk (d .registers))
+      (λ n x m parcels h l. perform-ok fr r parcels sh _ (act-ok ⊥ r (statusOf fr r) x m (onward p parcels) (λ z. absurd z) n) k) k k
 
-  pub work-length : length (workOf fr r p mem .mem) ≡ length mem
-  work-length = work-all fr r p mem (λ d. length (d .mem) ≡ length mem) (λ past a l. perform-length fr r past mem a) refl refl
+  pub work-length : length (workOf fr r p sh .shared .mem) ≡ length (sh .mem)
+  work-length =
+      work-all fr r p sh (λ d. length (d .shared .mem) ≡ length (sh .mem)) (λ n x m parcels h l. perform-length fr r parcels sh _) refl refl
 
   -- where nothing was done nothing has changed
-  pub work-idle : {w : Work} → workOf fr r p mem .work ≡ w → Idle w → workOf fr r p mem ≡ done w r mem
+  pub work-idle : {w : Work} → workOf fr r p sh .work ≡ w → Idle w → workOf fr r p sh ≡ done w r sh
   work-idle e i =
-      work-all fr r p mem (λ d. Idle (d .work) → d ≡ done (d .work) r mem)
-      (λ past a l z. absurd (perform-acts fr r past mem a z)) (λ z. refl) (λ z. refl) (rw e i)
-      ∙ ap (λ (w : Work). done w r mem) e
+      work-all fr r p sh (λ d. Idle (d .work) → d ≡ done (d .work) r sh)
+      (λ n x m parcels h l z. absurd (perform-acted fr r parcels sh _ l .1 z)) (λ z. refl) (λ z. refl) (rw e i)
+      ∙ ap (λ (w : Work). done w r sh) e
 
--- the two answers that stop a run
-abbrev pub Stop : Answer → Type 0
-Stop Stepped = ⊥
-Stop (Exchanged flags) = ⊥
-Stop (NotHeld p) = Unit {0}
-Stop (MonitorFetch p) = Unit {0}
+-- what a package loads has its widths
+pub loaded-ok : (mem : List ℕ) (x : ℕ) (r : Registers) (fr : Frame)
+    → ControlOk (loaded mem x r fr .registers) × FrameOk (loaded mem x r fr .frame) × (loaded mem x r fr .p .0 < 2 ^ 24)
+unfolding loaded
+loaded-ok mem x r fr = (
+  record { narrow = low _ 8; least = length-bounds _ .0; most = length-bounds _ .1; interrupt = low _ 1; bidirectional = low _ 1 },
+  record {
+    iba = low _ 17;
+    ila = low _ 17;
+    dba = low _ 17;
+    dla = low _ 17;
+    mm = low _ 1;
+    ifp = low _ 1;
+    fps = low _ 1;
+    ps = low _ 1;
+    cln = low _ 2;
+  },
+  low _ 24,
+)
 
-finish-stop : (st : State) (w : Work) (r : Registers) (mem mem' : List ℕ) → (Idle w → mem' ≡ mem) → Stop (finish st w r mem' .answer) → finish st w r mem' ≡ out (finish st w r mem' .answer) st mem
+-- a step that stops leaves the state and what is shared
+finish-stop : (st : State) (w : Work) (r : Registers) (sh sh' : Shared) → (Idle w → sh' ≡ sh) → stops (finish st w r sh' .answer) ≡ true
+    → finish st w r sh' ≡ out (finish st w r sh' .answer) st sh
 unfolding finish exchange
-finish-stop st (Next q) r mem mem' e s = absurd s
-finish-stop st (NormalExit q) r mem mem' e s = absurd s
-finish-stop st (ErrorExit q) r mem mem' e s = absurd s
-finish-stop st (OperandRange q) r mem mem' e s = absurd s
-finish-stop st ProgramRange r mem mem' e s = absurd s
-finish-stop st Unheld r mem mem' e s = rw (e tt)
-finish-stop st Unfetched r mem mem' e s = rw (e tt)
+finish-stop st PastOne r sh sh' e s = absurd (false≢true s)
+finish-stop st PastTwo r sh sh' e s = absurd (false≢true s)
+finish-stop st (To q) r sh sh' e s = absurd (false≢true s)
+finish-stop st NormalExit r sh sh' e s = absurd (false≢true s)
+finish-stop st ErrorExit r sh sh' e s = absurd (false≢true s)
+finish-stop st (OperandRange n) r sh sh' e s = absurd (false≢true s)
+finish-stop st ProgramRange r sh sh' e s = absurd (false≢true s)
+finish-stop st NotHeld r sh sh' e s = rw (e tt)
+finish-stop st MonitorFetch r sh sh' e s = rw (e tt)
 
--- and leave the state and memory
-pub step-stop : (st : State) (mem : List ℕ) {o : Answer} → stepOf st mem .answer ≡ o → Stop o → stepOf st mem ≡ out o st mem
+pub step-stop : (st : State) (sh : Shared) {o : Answer} → stepOf st sh .answer ≡ o → stops o ≡ true → stepOf st sh ≡ out o st sh
 unfolding stepOf finishOf
-step-stop st mem e s =
-    let d = workOf (st .frame) (st .registers) (st .p .0) mem in
-    finish-stop st (d .work) (d .registers) mem (d .mem)
-    (λ i. ap (λ (x : Done). x .mem) (work-idle (st .frame) (st .registers) (st .p .0) mem refl i)) (rw e s)
-    ∙ ap (λ (o : Answer). out o st mem) e
-
--- two results of the public step are equal
-pub unique : (st : State) (mem : List ℕ) (o o' : Called) → o ≡ stepCall st mem → o' ≡ stepCall st mem → o ≡ o'
-unique st mem o o' e e' = e ∙ sym e'
+step-stop st sh e s =
+    let d = workOf (st .frame) (st .registers) (st .p .0) sh in
+    finish-stop st (d .work) (d .registers) sh (d .shared)
+    (λ i. ap (λ (x : Done). x .shared) (work-idle (st .frame) (st .registers) (st .p .0) sh refl i)) (rw e s)
+    ∙ ap (λ (o : Answer). out o st sh) e

@@ -1,5 +1,9 @@
+pub mod Below
+pub mod Acts
 pub mod Laws
-pub mod Fits
-pub mod Wrong
 pub mod Kept
+pub mod Answers
+pub mod Counted
+pub mod Example
+pub mod Wrong
 pub mod Calls

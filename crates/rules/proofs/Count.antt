@@ -2,15 +2,15 @@
 use Prim.Native.Nat.{ℕ, zero, suc, _+_, _*_, _/_}
 use mathlib.Core.Path.{_≡_, refl, sym, _∙_, ap}
 use mathlib.Core.Bool.{Bool, true, false, _&&_}
+use mathlib.Core.List.{[]}
 use native.Mathlib.Nat.{add-zero, add-suc, add-assoc}
 use native.Mathlib.Omega.{arith}
 use lib.ListN.{getD}
 use lib.Dec.{eqb, ltb}
-use Rattle.machine.specs.State.{bit}
 use Rattle.machine.specs.Parcel.{gOf, hOf, iOf, jOf, kOf}
-use Rattle.machine.specs.Codes.{Code, None, One, Two, codeOf, code001, code002, only, rows, every}
+use Rattle.machine.specs.Codes.{Code, None, One, Two, codeOf, code001, code002, nth, only, rows}
 use Rattle.machine.specs.Act.{Pass, SetXA}
-use Rattle.machine.specs.Word.{pick}
+use Rattle.machine.specs.Word.{pick, bit}
 
 -- held; held with a second parcel
 abbrev pub held : Code → Bool
@@ -40,7 +40,7 @@ how-many-append f m (suc n) = rw (add-suc m n, how-many-append f m n) (add-assoc
 
 -- the entry of the table for g and h, the other digits being those of x
 abbrev entry : Bool → ℕ → ℕ → ℕ → Code
-entry user x g h = getD (rows user (iOf x) (jOf x) (kOf x)) g (every None) h
+entry user x g h = nth (getD (rows user (iOf x) (jOf x) (kOf x)) g []) h
 
 -- the two modes differ in 001 only
 pub modes-agree : (x : ℕ) → (x / 512 ≡ 1 → ⊥) → codeOf true x ≡ codeOf false x

@@ -7,17 +7,14 @@ use native.Mathlib.Omega.{arith}
 use lib.ListN.{set}
 use lib.Pow.{pow-pos, low}
 use lib.Count.{leadingZeros, ones-ones}
-use Rattle.machine.specs.declared.Frame.{Frame}
-use Rattle.machine.specs.declared.Registers.{Registers}
 use Rattle.machine.specs.declared.Fetched.the-variants.{Parcel}
-use Rattle.machine.specs.declared.Work.the-variants.{Next}
-use Rattle.machine.specs.Word.{sum24, difference24, product24, right, leftPair, onesRight, parity, lengthOf}
+use Rattle.machine.specs.Word.{sum24, difference24, product24, shiftRight, shiftLeftPair, onesRight, parity, lengthOf}
 use Rattle.machine.specs.Parcel.{gOf, hOf, iOf, jOf, kOf, jkOf, onward}
-use Rattle.machine.specs.State.{user, aj, ak, si, sj, apply, withA, withS, control}
+use Rattle.machine.specs.State.{Frame, Registers, sharing, user, aj, ak, si, sj, apply, withA, withS, control}
 use Rattle.machine.specs.Memory.{fetchOf}
 use Rattle.machine.specs.Act.{act}
 use Rattle.machine.specs.Codes.{codeOf, code002}
-use Rattle.machine.specs.Work.{Done, done, parcel, perform, execute}
+use Rattle.machine.specs.Work.{decoded, Done, done, past, perform, doneWith}
 
 -- a first parcel by its six octal digits
 abbrev pub octal : ℕ → ℕ → ℕ → ℕ → ℕ → ℕ → ℕ
@@ -25,11 +22,11 @@ octal a b c i j k = ((((a * 8 + b) * 8 + c) * 8 + i) * 8 + j) * 8 + k
 
 -- the instruction at p whose first parcel is x
 abbrev pub does : Frame → Registers → ℕ → List ℕ → ℕ → Done
-does fr r p mem x = execute fr r p mem (codeOf (user fr) x) x
+does fr r p mem x = doneWith fr r p (sharing mem) (decoded fr mem p x (codeOf (user fr) x))
 
 -- P goes on by n parcels, and nothing else changes but the registers
-abbrev pub leaves : ℕ → ℕ → List ℕ → Registers → Done
-leaves n p mem r = done (Next (parcel (onward p n))) r mem
+abbrev pub leaves : ℕ → List ℕ → Registers → Done
+leaves n mem r = done (past n) r (sharing mem)
 
 abbrev pub setA : Registers → ℕ → ℕ → Registers
 setA r i x = withA r (set (r .a) i x)
@@ -56,92 +53,92 @@ digits a b c i j k cs is js ks =
 module _ (fr : Frame) (r : Registers) (p : ℕ) (mem : List ℕ) (i : ℕ) (is : i < 8) where
   module _ (j : ℕ) (js : j < 8) where
     -- 027ij0: leading zeros of 0, of 1 and of 2^63
-    zeros-027ij0 : (x : ℕ) → sj r j ≡ x → does fr r p mem (octal 0 2 7 i j 0) ≡ leaves 1 p mem (setA r i (leadingZeros 64 x))
-    unfolding codeOf execute perform act apply
+    zeros-027ij0 : (x : ℕ) → sj r j ≡ x → does fr r p mem (octal 0 2 7 i j 0) ≡ leaves 1 mem (setA r i (leadingZeros 64 x))
+    unfolding codeOf decoded doneWith perform act apply
     zeros-027ij0 x e =
         let d = digits 0 2 7 i j 0 (omega arith) is js (omega arith) in
         rw (d .g-is, d .h-is, d .k-is, d .i-is, d .j-is, e)
 
-    pub zeros-of-0 : sj r j ≡ 0 → does fr r p mem (octal 0 2 7 i j 0) ≡ leaves 1 p mem (setA r i 64)
+    pub zeros-of-0 : sj r j ≡ 0 → does fr r p mem (octal 0 2 7 i j 0) ≡ leaves 1 mem (setA r i 64)
     unfolding leadingZeros
     zeros-of-0 e = zeros-027ij0 0 e
 
-    pub zeros-of-1 : sj r j ≡ 1 → does fr r p mem (octal 0 2 7 i j 0) ≡ leaves 1 p mem (setA r i 63)
+    pub zeros-of-1 : sj r j ≡ 1 → does fr r p mem (octal 0 2 7 i j 0) ≡ leaves 1 mem (setA r i 63)
     unfolding leadingZeros
     zeros-of-1 e = zeros-027ij0 1 e
 
-    pub zeros-of-highest : sj r j ≡ 2 ^ 63 → does fr r p mem (octal 0 2 7 i j 0) ≡ leaves 1 p mem (setA r i 0)
+    pub zeros-of-highest : sj r j ≡ 2 ^ 63 → does fr r p mem (octal 0 2 7 i j 0) ≡ leaves 1 mem (setA r i 0)
     unfolding leadingZeros
     zeros-of-highest e = zeros-027ij0 (2 ^ 63) e
 
     -- 026ij1: parity of all ones
-    pub parity-of-ones : sj r j ≡ 2 ^ 64 - 1 → does fr r p mem (octal 0 2 6 i j 1) ≡ leaves 1 p mem (setA r i 0)
-    unfolding codeOf execute perform act apply parity
+    pub parity-of-ones : sj r j ≡ 2 ^ 64 - 1 → does fr r p mem (octal 0 2 6 i j 1) ≡ leaves 1 mem (setA r i 0)
+    unfolding codeOf decoded doneWith perform act apply parity
     parity-of-ones e =
         let d = digits 0 2 6 i j 1 (omega arith) is js (omega arith) in
         rw (d .g-is, d .h-is, d .k-is, d .i-is, d .j-is, e, ones-ones 64)
 
   -- 031i00
-  pub difference-031i00 : does fr r p mem (octal 0 3 1 i 0 0) ≡ leaves 1 p mem (setA r i (2 ^ 24 - 1))
-  unfolding codeOf execute perform act apply difference24
+  pub difference-031i00 : does fr r p mem (octal 0 3 1 i 0 0) ≡ leaves 1 mem (setA r i (2 ^ 24 - 1))
+  unfolding codeOf decoded doneWith perform act apply difference24
   difference-031i00 =
       let d = digits 0 3 1 i 0 0 (omega arith) is (omega arith) (omega arith) in
       rw (d .g-is, d .h-is, d .i-is, d .j-is, d .k-is)
 
   -- 030i00
-  pub sum-030i00 : does fr r p mem (octal 0 3 0 i 0 0) ≡ leaves 1 p mem (setA r i 1)
-  unfolding codeOf execute perform act apply sum24
+  pub sum-030i00 : does fr r p mem (octal 0 3 0 i 0 0) ≡ leaves 1 mem (setA r i 1)
+  unfolding codeOf decoded doneWith perform act apply sum24
   sum-030i00 =
       let d = digits 0 3 0 i 0 0 (omega arith) is (omega arith) (omega arith) in
       rw (d .g-is, d .h-is, d .i-is, d .j-is, d .k-is)
 
   -- 021i00 and a second parcel of 5
-  pub complement-of-5 : fetchOf fr mem (onward p 1) ≡ Parcel 5 → does fr r p mem (octal 0 2 1 i 0 0) ≡ leaves 2 p mem (setA r i (2 ^ 24 - 6))
-  unfolding codeOf execute perform act apply
+  pub complement-of-5 : fetchOf fr mem (onward p 1) ≡ Parcel 5 → does fr r p mem (octal 0 2 1 i 0 0) ≡ leaves 2 mem (setA r i (2 ^ 24 - 6))
+  unfolding codeOf decoded doneWith perform act apply
   complement-of-5 e =
       let d = digits 0 2 1 i 0 0 (omega arith) is (omega arith) (omega arith) in
-      rw (d .g-is, d .h-is, d .i-is, e, d .jk-is)
+      rw (d .g-is, d .h-is, e, d .i-is, d .jk-is)
 
   -- 032ijk
-  pub product-of-4096 : (j k : ℕ) → j < 8 → k < 8 → aj r j ≡ 4096 → ak r k ≡ 4096 → does fr r p mem (octal 0 3 2 i j k) ≡ leaves 1 p mem (setA r i 0)
-  unfolding codeOf execute perform act apply product24
+  pub product-of-4096 : (j k : ℕ) → j < 8 → k < 8 → aj r j ≡ 4096 → ak r k ≡ 4096 → does fr r p mem (octal 0 3 2 i j k) ≡ leaves 1 mem (setA r i 0)
+  unfolding codeOf decoded doneWith perform act apply product24
   product-of-4096 j k js ks e f =
       let d = digits 0 3 2 i j k (omega arith) is js ks in
       rw (d .g-is, d .h-is, d .i-is, d .j-is, d .k-is, e, f)
 
   -- 042i00
-  pub ones-042i00 : does fr r p mem (octal 0 4 2 i 0 0) ≡ leaves 1 p mem (setS r i (2 ^ 64 - 1))
-  unfolding codeOf execute perform act apply onesRight
+  pub ones-042i00 : does fr r p mem (octal 0 4 2 i 0 0) ≡ leaves 1 mem (setS r i (2 ^ 64 - 1))
+  unfolding codeOf decoded doneWith perform act apply onesRight
   ones-042i00 =
       let d = digits 0 4 2 i 0 0 (omega arith) is (omega arith) (omega arith) in
       rw (d .g-is, d .h-is, d .i-is, d .jk-is)
 
   -- 042i77
-  pub ones-042i77 : does fr r p mem (octal 0 4 2 i 7 7) ≡ leaves 1 p mem (setS r i 1)
-  unfolding codeOf execute perform act apply onesRight
+  pub ones-042i77 : does fr r p mem (octal 0 4 2 i 7 7) ≡ leaves 1 mem (setS r i 1)
+  unfolding codeOf decoded doneWith perform act apply onesRight
   ones-042i77 =
       let d = digits 0 4 2 i 7 7 (omega arith) is (omega arith) (omega arith) in
       rw (d .g-is, d .h-is, d .i-is, d .jk-is)
 
   -- 053i00
-  pub right-053i00 : si r i < 2 ^ 64 → does fr r p mem (octal 0 5 3 i 0 0) ≡ leaves 1 p mem (setS r 0 0)
-  unfolding codeOf execute perform act apply right
+  pub right-053i00 : si r i < 2 ^ 64 → does fr r p mem (octal 0 5 3 i 0 0) ≡ leaves 1 mem (setS r 0 0)
+  unfolding codeOf decoded doneWith perform act apply shiftRight
   right-053i00 l =
       let d = digits 0 5 3 i 0 0 (omega arith) is (omega arith) (omega arith) in
       rw (d .g-is, d .h-is, d .i-is, d .jk-is, div-eq-of-lt l)
 
   module _ (j k : ℕ) (js : j < 8) (ks : k < 8) where
     -- 056ijk by 64
-    pub left-by-64 : ak r k ≡ 64 → sj r j < 2 ^ 64 → does fr r p mem (octal 0 5 6 i j k) ≡ leaves 1 p mem (setS r i (sj r j))
-    unfolding codeOf execute perform act apply leftPair
+    pub left-by-64 : ak r k ≡ 64 → sj r j < 2 ^ 64 → does fr r p mem (octal 0 5 6 i j k) ≡ leaves 1 mem (setS r i (sj r j))
+    unfolding codeOf decoded doneWith perform act apply shiftLeftPair
     left-by-64 e l =
         let d = digits 0 5 6 i j k (omega arith) is js ks in
         let v = si r i * 2 ^ 64 + sj r j in
         rw (d .g-is, d .h-is, d .i-is, d .j-is, d .k-is, e, mul-div-cancel v (pow-pos 64), low (si r i) 64 l)
 
     -- 056ijk by 128
-    pub left-by-128 : ak r k ≡ 128 → does fr r p mem (octal 0 5 6 i j k) ≡ leaves 1 p mem (setS r i 0)
-    unfolding codeOf execute perform act apply leftPair
+    pub left-by-128 : ak r k ≡ 128 → does fr r p mem (octal 0 5 6 i j k) ≡ leaves 1 mem (setS r i 0)
+    unfolding codeOf decoded doneWith perform act apply shiftLeftPair
     left-by-128 e =
         let d = digits 0 5 6 i j k (omega arith) is js ks in
         let v = si r i * 2 ^ 64 + sj r j in
@@ -149,16 +146,16 @@ module _ (fr : Frame) (r : Registers) (p : ℕ) (mem : List ℕ) (i : ℕ) (is :
 
 module _ (fr : Frame) (r : Registers) (p : ℕ) (mem : List ℕ) (k : ℕ) (ks : k < 8) where
   -- 00200k: VL from 0 and from 65
-  length-00200k : (n : ℕ) → ak r k ≡ n → does fr r p mem (octal 0 0 2 0 0 k) ≡ leaves 1 p mem (setVL r (lengthOf n))
-  unfolding codeOf code002 execute perform act apply
+  length-00200k : (n : ℕ) → ak r k ≡ n → does fr r p mem (octal 0 0 2 0 0 k) ≡ leaves 1 mem (setVL r (lengthOf n))
+  unfolding codeOf code002 decoded doneWith perform act apply
   length-00200k n e =
       let d = digits 0 0 2 0 0 k (omega arith) (omega arith) (omega arith) ks in
       rw (d .g-is, d .h-is, d .i-is, d .j-is, d .k-is, e)
 
-  pub length-from-0 : ak r k ≡ 0 → does fr r p mem (octal 0 0 2 0 0 k) ≡ leaves 1 p mem (setVL r 64)
+  pub length-from-0 : ak r k ≡ 0 → does fr r p mem (octal 0 0 2 0 0 k) ≡ leaves 1 mem (setVL r 64)
   unfolding lengthOf
   length-from-0 e = length-00200k 0 e
 
-  pub length-from-65 : ak r k ≡ 65 → does fr r p mem (octal 0 0 2 0 0 k) ≡ leaves 1 p mem (setVL r 1)
+  pub length-from-65 : ak r k ≡ 65 → does fr r p mem (octal 0 0 2 0 0 k) ≡ leaves 1 mem (setVL r 1)
   unfolding lengthOf
   length-from-65 e = length-00200k 65 e

@@ -1,0 +1,104 @@
+-- How a run counts: the steps that do not stop, one by one. Assumes nothing.
+use Prim.Native.Nat.{ℕ, zero, suc, _+_, _<_}
+use mathlib.Core.Path.{_≡_, refl, sym, _∙_, ap}
+use mathlib.Core.Logic.{_⊎_, inl, inr}
+use mathlib.Core.Bool.{Bool, true, false, false≢true}
+use native.Mathlib.Omega.{arith}
+use native.Mathlib.Nat.{add-zero, zero-add, suc-add}
+use Rattle.machine.specs.declared.Answer.{Answer}
+use Rattle.machine.specs.declared.Answer.the-variants.{Stepped, Exchanged, NotHeld, MonitorFetch}
+use Rattle.machine.specs.declared.Ending.the-variants as ending
+use Rattle.machine.specs.State.{State, Shared}
+use Rattle.machine.specs.Step.{Out, stepOf, stops, counted}
+use Rattle.machine.specs.Run.{Ended, ended, endingOf, runOf}
+use Rattle.laws.proofs.Laws.{step-stop}
+
+-- what k steps leave
+abbrev pub stateAfter : ℕ → State → Shared → State
+stateAfter zero st sh = st
+stateAfter (suc k) st sh = stateAfter k (stepOf st sh .state) (stepOf st sh .shared)
+
+abbrev pub sharedAfter : ℕ → State → Shared → Shared
+sharedAfter zero st sh = sh
+sharedAfter (suc k) st sh = sharedAfter k (stepOf st sh .state) (stepOf st sh .shared)
+
+-- none of them stops
+abbrev pub Goes : ℕ → State → Shared → Type 0
+Goes zero st sh = Unit {0}
+Goes (suc k) st sh = (stops (stepOf st sh .answer) ≡ false) × Goes k (stepOf st sh .state) (stepOf st sh .shared)
+
+-- the answer of the step after them
+abbrev pub nextAnswer : ℕ → State → Shared → Answer
+nextAnswer k st sh = stepOf (stateAfter k st sh) (sharedAfter k st sh) .answer
+
+-- a step is counted where it does not stop
+counts : (o : Answer) → stops o ≡ false → counted o ≡ 1
+counts Stepped e = refl
+counts (Exchanged flags) e = refl
+counts (NotHeld p) e = absurd (false≢true (sym e))
+counts (MonitorFetch p) e = absurd (false≢true (sym e))
+
+counts-none : (o : Answer) → stops o ≡ true → counted o ≡ 0
+counts-none Stepped e = absurd (false≢true e)
+counts-none (Exchanged flags) e = absurd (false≢true e)
+counts-none (NotHeld p) e = refl
+counts-none (MonitorFetch p) e = refl
+
+-- a run whose first step does not stop, and one whose first step does
+run-on : (b n : ℕ) (st : State) (sh : Shared) → stops (stepOf st sh .answer) ≡ false
+    → runOf (suc b) n st sh ≡ runOf b (n + 1) (stepOf st sh .state) (stepOf st sh .shared)
+unfolding runOf
+run-on b n st sh e = rw (e, counts (stepOf st sh .answer) e)
+
+run-over : (b n : ℕ) (st : State) (sh : Shared) → stops (stepOf st sh .answer) ≡ true → runOf (suc b) n st sh ≡ ended (endingOf (stepOf st sh .answer)) n st sh
+unfolding runOf
+run-over b n st sh e =
+    let o = step-stop st sh refl e in
+    rw (e, counts-none (stepOf st sh .answer) e, add-zero n, ap (λ (o : Out). o .state) o, ap (λ (o : Out). o .shared) o)
+
+-- a run takes k steps that do not stop, and counts k
+pub run-takes : (k b n : ℕ) (st : State) (sh : Shared) → Goes k st sh → runOf (k + b) n st sh ≡ runOf b (n + k) (stateAfter k st sh) (sharedAfter k st sh)
+run-takes zero b n st sh g = rw (zero-add b, add-zero n)
+run-takes (suc k) b n st sh g =
+    let e : n + 1 + k ≡ n + suc k = omega arith in
+    rw (suc-add k b, ← e) (run-on (k + b) n st sh (g .0) ∙ run-takes k b (n + 1) (stepOf st sh .state) (stepOf st sh .shared) (g .1))
+
+-- as many as its budget
+pub run-spent : (k n : ℕ) (st : State) (sh : Shared) → Goes k st sh → runOf k n st sh ≡ ended ending.Budget (n + k) (stateAfter k st sh) (sharedAfter k st sh)
+unfolding runOf
+run-spent k n st sh g = ap (λ (b : ℕ). runOf b n st sh) (sym (add-zero k)) ∙ run-takes k 0 n st sh g
+
+-- or until one stops, which changes nothing and is not counted
+pub run-stops : (k b n : ℕ) (st : State) (sh : Shared) → Goes k st sh → stops (nextAnswer k st sh) ≡ true
+    → runOf (k + suc b) n st sh ≡ ended (endingOf (nextAnswer k st sh)) (n + k) (stateAfter k st sh) (sharedAfter k st sh)
+run-stops k b n st sh g s = run-takes k (suc b) n st sh g ∙ run-over b (n + k) (stateAfter k st sh) (sharedAfter k st sh) s
+
+-- every run e is one of these two: it took k steps
+pub record Took (budget n : ℕ) (st : State) (sh : Shared) (e : Ended) : Type 0 where
+  pub k : ℕ
+  pub goes : Goes k st sh
+  pub steps : e .steps ≡ n + k
+  pub state : e .state ≡ stateAfter k st sh
+  pub shared : e .shared ≡ sharedAfter k st sh
+  pub over : ((k ≡ budget) × (e .ending ≡ ending.Budget)) ⊎ ((k < budget) × (stops (nextAnswer k st sh) ≡ true) × (e .ending ≡ endingOf (nextAnswer k st sh)))
+
+pub run-took : (budget n : ℕ) (st : State) (sh : Shared) → Took budget n st sh (runOf budget n st sh)
+unfolding runOf
+run-took zero n st sh = record { k = 0; goes = tt; steps = sym (add-zero n); state = refl; shared = refl; over = inl (refl, refl) }
+run-took (suc b) n st sh = go (stops (stepOf st sh .answer)) refl (run-took b (n + 1) (stepOf st sh .state) (stepOf st sh .shared))
+  where
+    longer : {A B C : Type 0} {k : ℕ} → ((k ≡ b) × A) ⊎ ((k < b) × B × C) → ((suc k ≡ suc b) × A) ⊎ ((suc k < suc b) × B × C)
+    longer (inl h) = inl (omega (arith, h .0), h .1)
+    longer (inr h) = inr (omega (arith, h .0), h .1, h .2)
+
+    rest : Ended
+    rest = runOf b (n + 1) (stepOf st sh .state) (stepOf st sh .shared)
+
+    go : (t : Bool) → stops (stepOf st sh .answer) ≡ t → Took b (n + 1) (stepOf st sh .state) (stepOf st sh .shared) rest
+        → Took (suc b) n st sh (runOf (suc b) n st sh)
+    go true e h =
+        let r = run-over b n st sh e in
+        rw r (record { k = 0; goes = tt; steps = sym (add-zero n); state = refl; shared = refl; over = inr (omega arith, e, refl) })
+    go false e h =
+        rw (run-on b n st sh e)
+        (record { k = suc (h .k); goes = (e, h .goes); steps = h .steps ∙ omega arith; state = h .state; shared = h .shared; over = longer (h .over) })
