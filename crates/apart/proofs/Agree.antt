@@ -1,5 +1,5 @@
 -- What a read depends on and what a store changes, where P is any set of words. Assumes nothing.
-use Prim.Native.Nat.{ℕ, zero, suc, _*_, _/_, _<_}
+use Prim.Native.Nat.{ℕ, zero, suc, _*_, _<_}
 use mathlib.Core.Path.{_≡_, refl, sym, _∙_}
 use mathlib.Core.Bool.{Bool, true, false}
 use mathlib.Core.List.{List}
@@ -9,11 +9,13 @@ use lib.ListN.{length, getD, set, length-set}
 use lib.Seq.{getD-set-same, getD-set-other, set-out}
 use lib.Dec.{leb, ltb}
 use borrow.Author.Tests.{ltb-false, leb-false}
-use Rattle.machine.specs.declared.Frame.{Frame}
 use Rattle.machine.specs.declared.Place.{Place}
 use Rattle.machine.specs.declared.Place.the-variants.{At, Beyond}
 use Rattle.machine.specs.Word.{pick}
+use Rattle.machine.specs.Parcel.{wordOf}
+use Rattle.machine.specs.State.{Frame}
 use Rattle.machine.specs.Memory.{Field, codeField, sumOf, placeOf, loadAt, storeAt, load, store, stores, parcelAt, fetchOf}
+use Rattle.laws.proofs.Answers.{distinct}
 use Rattle.apart.specs.Statement.{In, Agree}
 
 -- only words of Q differ
@@ -45,10 +47,11 @@ place-in f len a n e = go (ltb q (f .base * 32)) (leb (f .limit * 32) q) (leb le
     q : ℕ
     q = sumOf f a
 
-    go : (s t u : Bool) → ltb q (f .base * 32) ≡ s → leb (f .limit * 32) q ≡ t → leb len q ≡ u → pick s Beyond (pick t Beyond (pick u Beyond (At q))) ≡ At n → In f len n
-    go true t u b l o h = let z : _≡_ {A = ℕ} 0 1 = cc in omega arith
-    go false true u b l o h = let z : _≡_ {A = ℕ} 0 1 = cc in omega arith
-    go false false true b l o h = let z : _≡_ {A = ℕ} 0 1 = cc in omega arith
+    go : (s t u : Bool) → ltb q (f .base * 32) ≡ s → leb (f .limit * 32) q ≡ t → leb len q ≡ u
+        → pick s Beyond (pick t Beyond (pick u Beyond (At q))) ≡ At n → In f len n
+    go true t u b l o h = absurd (distinct (cc))
+    go false true u b l o h = absurd (distinct (cc))
+    go false false true b l o h = absurd (distinct (cc))
     go false false false b l o h =
         let z : q ≡ n = cc in
         rw (← z) (ltb-false q (f .base * 32) b, leb-false (f .limit * 32) q l, leb-false len q o)
@@ -64,10 +67,10 @@ load-agree f len m m' a e h = rw (← (h .long), e) (go (placeOf f len a) refl)
 
 pub fetch-agree : (fr : Frame) (len : ℕ) (m m' : List ℕ) (p : ℕ) → length m ≡ len → Agree (In (codeField fr) len) m m' → fetchOf fr m p ≡ fetchOf fr m' p
 unfolding fetchOf
-fetch-agree fr len m m' p e h = rw (← (h .long), e) (go (placeOf (codeField fr) len (p / 4)) refl)
+fetch-agree fr len m m' p e h = rw (← (h .long), e) (go (placeOf (codeField fr) len (wordOf p)) refl)
   where
-    go : (o : Place) → placeOf (codeField fr) len (p / 4) ≡ o → parcelAt m p o ≡ parcelAt m' p o
-    go (At n) q = rw (h .same n (place-in (codeField fr) len (p / 4) n q))
+    go : (o : Place) → placeOf (codeField fr) len (wordOf p) ≡ o → parcelAt m p o ≡ parcelAt m' p o
+    go (At n) q = rw (h .same n (place-in (codeField fr) len (wordOf p) n q))
     go Beyond q = refl
 
 -- the same store in two memories leaves them agreeing wherever they did

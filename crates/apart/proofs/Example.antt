@@ -1,23 +1,22 @@
 -- Demand 3 of two small programs: what it asks can be met, and both do their work. Assumes nothing.
 use Prim.Native.Nat.{ℕ, _+_, _*_, _^_}
 use mathlib.Core.Path.{_≡_, refl}
-use mathlib.Core.Logic.{inr}
 use mathlib.Core.List.{List, [], _∷_}
 use native.Mathlib.Omega.{arith}
 use lib.ListN.{length, set}
-use Rattle.machine.specs.declared.State.{State}
 use Rattle.machine.specs.declared.Answer.the-variants.{Stepped}
+use Rattle.machine.specs.declared.Last.the-variants.{Was}
 use Rattle.machine.specs.Word.{sum24, sum64, onesRight}
-use Rattle.machine.specs.State.{apply}
+use Rattle.machine.specs.State.{State, sharing, addr, apply}
 use Rattle.machine.specs.Memory.{placeOf, load, store, stores, anyOutside, fetchOf}
 use Rattle.machine.specs.Act.{act}
 use Rattle.machine.specs.Codes.{codeOf}
-use Rattle.machine.specs.Work.{parcel, ranged, perform, execute, workOf}
+use Rattle.machine.specs.Work.{decoded, presentOf, outside, ranged, perform, doneWith, workOf}
 use Rattle.machine.specs.Step.{finish, finishOf, stepOf}
 use Rattle.machine.specs.Run.{zeros, pairEnded, pairOf}
 use Rattle.machine.specs.Refusal.{below, registersFit, frameFits, stateFits, memoryFits, pairRefusal}
 use Rattle.machine.specs.Refusal as Refusal
-use Rattle.apart.specs.Statement.{Apart, together, Undisturbed, Demand3}
+use Rattle.apart.specs.Statement.{Apart, together, Smooth, Undisturbed, Demand3}
 use Rattle.apart.proofs.Pair.{undisturbed}
 
 -- four parcels
@@ -28,13 +27,14 @@ word a b c d = a * 2 ^ 48 + b * 2 ^ 32 + c * 2 ^ 16 + d
 -- the second's in words 64 and 65: S1 is eight ones, S1 is S1+S1, S1 to word 2, S2 from word 2
 unfoldable pub memory : List ℕ
 memory =
-    set (set (set (set (zeros 4096) 0 (word 0o022105 0o030211 0o110200 3)) 1 (word 0o100300 3 0 0)) 64 (word 0o042170 0o060111 0o130100 2)) 65 (word 0o120200 2 0 0)
+    let one = set (set (zeros 4096) 0 (word 0o022105 0o030211 0o110200 3)) 1 (word 0o100300 3 0 0) in
+    set (set one 64 (word 0o042170 0o060111 0o130100 2)) 65 (word 0o120200 2 0 0)
 
 -- a processor whose instruction field is block n and whose data field is block n + 1, at parcel p
 abbrev pub at : ℕ → ℕ → ℕ → List ℕ → List ℕ → State
 at number n p a s =
     record {
-      p = parcel p;
+      p = addr p;
       registers = record { a = a; s = s; b = zeros 64; t = zeros 64; v = zeros 512; xa = 0; vl = 1; vm = 0; ior = 0; bdm = 0 };
       frame = record { iba = n; ila = n + 1; dba = n + 1; dla = n + 2; mm = 0; ifp = 0; fps = 0; ps = 0; cln = 0; processor = number };
     }
@@ -56,12 +56,15 @@ taken = refl
 apart : Apart (first .frame) (second .frame) (length memory)
 apart = record { operands = λ w a b. omega arith; first = λ w a b. omega arith; second = λ w a b. omega arith }
 
--- what it comes to, step by step
-pub ends : together schedule first second memory
-    ≡ pairEnded (Stepped ∷ []) 8 (at 0 0 6 (0 ∷ 5 ∷ 10 ∷ 10 ∷ zeros 4) (zeros 8)) (at 1 2 6 (zeros 8) (0 ∷ 510 ∷ 510 ∷ zeros 5)) (set (set memory 35 10) 98 510)
-unfolding memory zeros pairOf stepOf finishOf finish workOf fetchOf placeOf execute perform act apply codeOf load store stores anyOutside ranged sum24 sum64 onesRight
-ends = refl
+-- each of its steps steps, and what it comes to
+pub ends : Smooth schedule first second (sharing memory)
+    × (together schedule first second (sharing memory)
+    ≡ pairEnded (Was Stepped) 8 (at 0 0 6 (0 ∷ 5 ∷ 10 ∷ 10 ∷ zeros 4) (zeros 8)) (at 1 2 6 (zeros 8) (0 ∷ 510 ∷ 510 ∷ zeros 5))
+    (sharing (set (set memory 35 10) 98 510)))
+unfolding memory zeros pairOf stepOf finishOf finish workOf presentOf decoded doneWith fetchOf placeOf perform act apply codeOf
+    load store stores outside anyOutside ranged sum24 sum64 onesRight
+ends = ((refl, (refl, (refl, (refl, (refl, (refl, (refl, (refl, tt)))))))), refl)
 
-pub example : Undisturbed schedule first second memory
+pub example : Undisturbed schedule first second (sharing memory)
 unfolding Demand3
-example = undisturbed schedule first second memory apart (inr (rw ends))
+example = undisturbed schedule first second (sharing memory) apart (ends .0)

@@ -7,73 +7,61 @@ use native.Mathlib.Omega.{arith}
 use native.Mathlib.Decide.{decLe, decLt}
 use lib.ListN.{length, getD}
 use lib.Seq.{ext-getD}
-use Rattle.machine.specs.declared.Frame.{Frame}
-use Rattle.machine.specs.declared.State.{State}
-use Rattle.machine.specs.declared.Answer.{Answer}
-use Rattle.machine.specs.declared.Answer.the-variants.{Stepped, Exchanged, NotHeld, MonitorFetch}
+use Rattle.machine.specs.declared.Answer.the-variants.{Stepped}
+use Rattle.machine.specs.declared.Last.{Last}
+use Rattle.machine.specs.declared.Last.the-variants as last
+use Rattle.machine.specs.State.{Frame, State, Shared, sharing}
 use Rattle.machine.specs.Memory.{Field, dataField}
 use Rattle.machine.specs.Step.{stepOf}
-use Rattle.machine.specs.Run.{zeros, PairEnded, pairGoesOn, pairOf}
-use Rattle.apart.specs.Statement.{In, Own, Neither, Agree, Apart, firsts, seconds, ones, together, Smooth, AsAlone, Demand3}
+use Rattle.machine.specs.Run.{zeros, PairEnded, pairOf}
+use Rattle.laws.proofs.Counted.{stateAfter, sharedAfter}
+use Rattle.apart.specs.Statement.{In, Own, Neither, Agree, Apart, firsts, seconds, oneBytes, together, Smooth, AsAlone, Demand3}
 use Rattle.apart.proofs.Agree.{Only, itself, flip, chain, weaken, other}
 use Rattle.apart.proofs.Step.{step-frame, step-only}
-use Rattle.apart.proofs.Walk.{Steps, stateAfter, memAfter, SameWalk, walk-same, as-alone}
+use Rattle.apart.proofs.Walk.{Steps, SameWalk, walk-same, as-alone}
 
--- the first step of a pair run that no step ends
-going : (a : Answer) (n : ℕ) (rest : PairEnded) (stop : ℕ → PairEnded) → ((k : ℕ) → stop k .last ≡ a ∷ []) → Smooth (pairGoesOn a n rest stop) → a ≡ Stepped
-going Stepped n rest stop e s = refl
-going (Exchanged flags) n rest stop e (inl h) = let z : _≡_ {A = ℕ} 0 1 = cc (e (suc n)) in absurd (omega arith)
-going (Exchanged flags) n rest stop e (inr h) = let z : _≡_ {A = ℕ} 0 1 = cc (e (suc n)) in absurd (omega arith)
-going (NotHeld p) n rest stop e (inl h) = let z : _≡_ {A = ℕ} 0 1 = cc (e n) in absurd (omega arith)
-going (NotHeld p) n rest stop e (inr h) = let z : _≡_ {A = ℕ} 0 1 = cc (e n) in absurd (omega arith)
-going (MonitorFetch p) n rest stop e (inl h) = let z : _≡_ {A = ℕ} 0 1 = cc (e n) in absurd (omega arith)
-going (MonitorFetch p) n rest stop e (inr h) = let z : _≡_ {A = ℕ} 0 1 = cc (e n) in absurd (omega arith)
-
-module _ (bytes : List ℕ) (last : List Answer) (d : ℕ) (x y : State) (m : List ℕ) where
-  goes-first : Smooth (pairOf (zero ∷ bytes) last d x y m) → stepOf x m .answer ≡ Stepped
-  unfolding pairOf
-  goes-first s = going _ d _ _ (λ k. refl) s
-
-  turn-first : stepOf x m .answer ≡ Stepped → pairOf (zero ∷ bytes) last d x y m ≡ pairOf bytes (Stepped ∷ []) (suc d) (stepOf x m .state) y (stepOf x m .mem)
+-- a pair run goes on after a step that stepped
+module _ (bytes : List ℕ) (l : Last) (d : ℕ) (x y : State) (sh : Shared) where
+  turn-first : stepOf x sh .answer ≡ Stepped
+      → pairOf (zero ∷ bytes) l d x y sh ≡ pairOf bytes (last.Was Stepped) (d + 1) (stepOf x sh .state) y (stepOf x sh .shared)
   unfolding pairOf
   turn-first e = rw e
 
-  goes-second : (b : ℕ) → Smooth (pairOf (suc b ∷ bytes) last d x y m) → stepOf y m .answer ≡ Stepped
-  unfolding pairOf
-  goes-second b s = going _ d _ _ (λ k. refl) s
-
-  turn-second : (b : ℕ) → stepOf y m .answer ≡ Stepped → pairOf (suc b ∷ bytes) last d x y m ≡ pairOf bytes (Stepped ∷ []) (suc d) x (stepOf y m .state) (stepOf y m .mem)
+  turn-second : (b : ℕ) → stepOf y sh .answer ≡ Stepped
+      → pairOf (suc b ∷ bytes) l d x y sh ≡ pairOf bytes (last.Was Stepped) (d + 1) x (stepOf y sh .state) (stepOf y sh .shared)
   unfolding pairOf
   turn-second b e = rw e
 
 -- the last answer after n steps
-abbrev lastOf : List Answer → ℕ → List Answer
-lastOf last zero = last
-lastOf last (suc n) = Stepped ∷ []
+abbrev lastOf : Last → ℕ → Last
+lastOf l zero = l
+lastOf l (suc n) = last.Was Stepped
 
-last-stepped : (n : ℕ) → lastOf (Stepped ∷ []) n ≡ Stepped ∷ []
+last-stepped : (n : ℕ) → lastOf (last.Was Stepped) n ≡ last.Was Stepped
 last-stepped zero = refl
 last-stepped (suc n) = refl
 
 -- what a pair run in which all stepped leaves, by the steps of each alone
-record Parts (fr gr : Frame) (len : ℕ) (bytes : List ℕ) (last : List Answer) (d : ℕ) (x y : State) (m : List ℕ) (e : PairEnded) : Type 0 where
-  steps-x : Steps (firsts bytes) x m
-  steps-y : Steps (seconds bytes) y m
-  state-x : stateAfter (firsts bytes) x m ≡ e .first
-  state-y : stateAfter (seconds bytes) y m ≡ e .second
-  mem-x : Agree (Own fr len) (memAfter (firsts bytes) x m) (e .mem)
-  mem-y : Agree (Own gr len) (memAfter (seconds bytes) y m) (e .mem)
-  rest : Agree (Neither fr gr len) (e .mem) m
-  answers : e .last ≡ lastOf last (length bytes)
+record Parts (fr gr : Frame) (len : ℕ) (bytes : List ℕ) (l : Last) (d : ℕ) (x y : State) (sh : Shared) (e : PairEnded) : Type 0 where
+  steps-x : Steps (firsts bytes) x sh
+  steps-y : Steps (seconds bytes) y sh
+  state-x : stateAfter (firsts bytes) x sh ≡ e .first
+  state-y : stateAfter (seconds bytes) y sh ≡ e .second
+  mem-x : Agree (Own fr len) (sharedAfter (firsts bytes) x sh .mem) (e .shared .mem)
+  mem-y : Agree (Own gr len) (sharedAfter (seconds bytes) y sh .mem) (e .shared .mem)
+  rest : Agree (Neither fr gr len) (e .shared .mem) (sh .mem)
+  answers : e .last ≡ lastOf l (length bytes)
   count : e .steps ≡ d + length bytes
 
 -- a processor whose frame is fr: what a step changes, and its steps in two memories that agree on its fields
 module _ (fr : Frame) (x : State) (len : ℕ) where
-  moves : (m : List ℕ) → x .frame ≡ fr → length m ≡ len → stepOf x m .answer ≡ Stepped → Only (In (dataField fr) len) m (stepOf x m .mem)
-  moves m e l a = subst (λ (f : Frame). Only (In (dataField f) len) m (stepOf x m .mem)) e (step-only x len m l a)
+  moves : (sh : Shared) → x .frame ≡ fr → length (sh .mem) ≡ len → stepOf x sh .answer ≡ Stepped
+      → Only (In (dataField fr) len) (sh .mem) (stepOf x sh .shared .mem)
+  moves sh e l a = subst (λ (f : Frame). Only (In (dataField f) len) (sh .mem) (stepOf x sh .shared .mem)) e (step-only x len sh l a)
 
-  repeat : (n : ℕ) (m m' : List ℕ) → x .frame ≡ fr → length m ≡ len → Agree (Own fr len) m m' → Steps n x m → SameWalk (Own fr len) n x m m'
-  repeat n m m' e l h s = walk-same (Own fr len) len n x m m' (rw e (λ w o. o)) l h s
+  repeat : (n : ℕ) (sh sh' : Shared) → x .frame ≡ fr → length (sh .mem) ≡ len → Agree (Own fr len) (sh .mem) (sh' .mem) → Steps n x sh
+      → SameWalk (Own fr len) n x sh sh'
+  repeat n sh sh' e l h s = walk-same (Own fr len) len n x sh sh' (rw e (λ w o. o)) l h s
 
 module _ (fr gr : Frame) (len : ℕ) (apart : Apart fr gr len) where
   -- neither's data field meets the other's fields
@@ -88,35 +76,35 @@ module _ (fr gr : Frame) (len : ℕ) (apart : Apart fr gr len) where
   -- by induction over the schedule
   Claim : List ℕ → Type 0
   Claim bytes =
-      (last : List Answer) (d : ℕ) (x y : State) (m : List ℕ) → x .frame ≡ fr → y .frame ≡ gr → length m ≡ len
-      → Smooth (pairOf bytes last d x y m) → Parts fr gr len bytes last d x y m (pairOf bytes last d x y m)
+      (l : Last) (d : ℕ) (x y : State) (sh : Shared) → x .frame ≡ fr → y .frame ≡ gr → length (sh .mem) ≡ len
+      → Smooth bytes x y sh → Parts fr gr len bytes l d x y sh (pairOf bytes l d x y sh)
 
   none : Claim []
   unfolding Claim pairOf firsts seconds
-  none last d x y m e g l s =
+  none l d x y sh e g n s =
       record {
         steps-x = tt;
         steps-y = tt;
         state-x = refl;
         state-y = refl;
-        mem-x = itself m;
-        mem-y = itself m;
-        rest = itself m;
+        mem-x = itself (sh .mem);
+        mem-y = itself (sh .mem);
+        rest = itself (sh .mem);
         answers = refl;
         count = omega arith;
       }
 
   by-first : (bytes : List ℕ) → Claim bytes → Claim (zero ∷ bytes)
   unfolding Claim firsts seconds
-  by-first bytes ih last d x y m e g l s =
-      let a = goes-first bytes last d x y m s in
-      let t = turn-first bytes last d x y m a in
-      let k = moves fr x len m e l a in
-      let l' = k .long ∙ l in
-      let u = ih (Stepped ∷ []) (suc d) (stepOf x m .state) y (stepOf x m .mem) (step-frame x m a ∙ e) g l' (rw t at s) in
-      let v = repeat gr y len (seconds bytes) (stepOf x m .mem) m g l' (other not-y k (itself m)) (u .steps-y) in
+  by-first bytes ih l d x y sh e g n s =
+      let o = stepOf x sh in
+      let t = turn-first bytes l d x y sh (s .0) in
+      let k = moves fr x len sh e n (s .0) in
+      let n' = k .long ∙ n in
+      let u = ih (last.Was Stepped) (d + 1) (o .state) y (o .shared) (step-frame x sh (s .0) ∙ e) g n' (s .1) in
+      let v = repeat gr y len (seconds bytes) (o .shared) sh g n' (other not-y k (itself (sh .mem))) (u .steps-y) in
       record {
-        steps-x = (a, u .steps-x);
+        steps-x = (s .0, u .steps-x);
         steps-y = v .steps;
         state-x = rw t (u .state-x);
         state-y = rw t (v .state ∙ u .state-y);
@@ -129,16 +117,16 @@ module _ (fr gr : Frame) (len : ℕ) (apart : Apart fr gr len) where
 
   by-second : (b : ℕ) (bytes : List ℕ) → Claim bytes → Claim (suc b ∷ bytes)
   unfolding Claim firsts seconds
-  by-second b bytes ih last d x y m e g l s =
-      let a = goes-second bytes last d x y m b s in
-      let t = turn-second bytes last d x y m b a in
-      let k = moves gr y len m g l a in
-      let l' = k .long ∙ l in
-      let u = ih (Stepped ∷ []) (suc d) x (stepOf y m .state) (stepOf y m .mem) e (step-frame y m a ∙ g) l' (rw t at s) in
-      let v = repeat fr x len (firsts bytes) (stepOf y m .mem) m e l' (other not-x k (itself m)) (u .steps-x) in
+  by-second b bytes ih l d x y sh e g n s =
+      let o = stepOf y sh in
+      let t = turn-second bytes l d x y sh b (s .0) in
+      let k = moves gr y len sh g n (s .0) in
+      let n' = k .long ∙ n in
+      let u = ih (last.Was Stepped) (d + 1) x (o .state) (o .shared) e (step-frame y sh (s .0) ∙ g) n' (s .1) in
+      let v = repeat fr x len (firsts bytes) (o .shared) sh e n' (other not-x k (itself (sh .mem))) (u .steps-x) in
       record {
         steps-x = v .steps;
-        steps-y = (a, u .steps-y);
+        steps-y = (s .0, u .steps-y);
         state-x = rw t (v .state ∙ u .state-x);
         state-y = rw t (u .state-y);
         mem-x = rw t (chain (flip (v .mem)) (u .mem-x));
@@ -153,23 +141,21 @@ module _ (fr gr : Frame) (len : ℕ) (apart : Apart fr gr len) where
   all (zero ∷ bytes) = by-first bytes (all bytes)
   all (suc b ∷ bytes) = by-second b bytes (all bytes)
 
--- the other way: where the steps of each alone step, so do they in any order
-smooth : (fr gr : Frame) (len : ℕ) → Apart fr gr len → (bytes : List ℕ) (last : List Answer) (d : ℕ) (x y : State) (m : List ℕ) → x .frame ≡ fr → y .frame ≡ gr → length m ≡ len
-    → Steps (firsts bytes) x m → Steps (seconds bytes) y m → (last ≡ []) ⊎ (last ≡ Stepped ∷ []) → Smooth (pairOf bytes last d x y m)
-unfolding pairOf firsts seconds
-smooth fr gr len apart [] last d x y m e g l s t o = o
-smooth fr gr len apart (zero ∷ bytes) last d x y m e g l s t o =
-    let k = moves fr x len m e l (s .0) in
-    let v = repeat gr y len (seconds bytes) m (stepOf x m .mem) g l (flip (other (not-y fr gr len apart) k (itself m))) t in
-    rw (s .0)
-    (smooth fr gr len apart bytes (Stepped ∷ []) (suc d) (stepOf x m .state) y (stepOf x m .mem)
-    (step-frame x m (s .0) ∙ e) g (k .long ∙ l) (s .1) (v .steps) (inr refl))
-smooth fr gr len apart (suc b ∷ bytes) last d x y m e g l s t o =
-    let k = moves gr y len m g l (t .0) in
-    let v = repeat fr x len (firsts bytes) m (stepOf y m .mem) e l (flip (other (not-x fr gr len apart) k (itself m))) s in
-    rw (t .0)
-    (smooth fr gr len apart bytes (Stepped ∷ []) (suc d) x (stepOf y m .state) (stepOf y m .mem)
-    e (step-frame y m (t .0) ∙ g) (k .long ∙ l) (v .steps) (t .1) (inr refl))
+  -- the other way: where the steps of each alone step, so do they in any order
+  smooth : (bytes : List ℕ) (x y : State) (sh : Shared) → x .frame ≡ fr → y .frame ≡ gr → length (sh .mem) ≡ len
+      → Steps (firsts bytes) x sh → Steps (seconds bytes) y sh → Smooth bytes x y sh
+  unfolding firsts seconds
+  smooth [] x y sh e g n s t = tt
+  smooth (zero ∷ bytes) x y sh e g n s t =
+      let o = stepOf x sh in
+      let k = moves fr x len sh e n (s .0) in
+      let v = repeat gr y len (seconds bytes) sh (o .shared) g n (flip (other not-y k (itself (sh .mem)))) t in
+      (s .0, smooth bytes (o .state) y (o .shared) (step-frame x sh (s .0) ∙ e) g (k .long ∙ n) (s .1) (v .steps))
+  smooth (suc b ∷ bytes) x y sh e g n s t =
+      let o = stepOf y sh in
+      let k = moves gr y len sh g n (t .0) in
+      let v = repeat fr x len (firsts bytes) sh (o .shared) e n (flip (other not-x k (itself (sh .mem)))) s in
+      (t .0, smooth bytes x (o .state) (o .shared) e (step-frame y sh (t .0) ∙ g) (k .long ∙ n) (v .steps) (t .1))
 
 -- a schedule has as many bytes as steps
 total : (bytes : List ℕ) → length bytes ≡ firsts bytes + seconds bytes
@@ -188,7 +174,8 @@ decide f len w = go (decLe (f .base * 32) w) (decLt w (f .limit * 32)) (decLt w 
     go (yes a) (yes b) (no c) = inr (λ h. c (h .2))
 
 -- memories that agree in both data fields, and outside them, are one
-joined : (fr gr : Frame) (len : ℕ) (m m' : List ℕ) → Agree (In (dataField fr) len) m m' → Agree (In (dataField gr) len) m m' → Agree (Neither fr gr len) m m' → m ≡ m'
+joined : (fr gr : Frame) (len : ℕ) (m m' : List ℕ) → Agree (In (dataField fr) len) m m' → Agree (In (dataField gr) len) m m'
+    → Agree (Neither fr gr len) m m' → m ≡ m'
 joined fr gr len m m' a b c =
     ext-getD 0 m m' (a .long) (λ w l. go w (decide (dataField fr) len w) (decide (dataField gr) len w))
   where
@@ -198,68 +185,72 @@ joined fr gr len m m' a b c =
     go w (inr p) (inr q) = c .same w (p, q)
 
 -- two schedules of as many steps of each
-alike : (fr gr : Frame) (len : ℕ) (bytes more : List ℕ) (x y : State) (m : List ℕ) (e e' : PairEnded) → firsts more ≡ firsts bytes → seconds more ≡ seconds bytes
-    → Parts fr gr len more [] 0 x y m e → Parts fr gr len bytes [] 0 x y m e' → e ≡ e'
-alike fr gr len bytes more x y m e e' f s a b =
+alike : (fr gr : Frame) (len : ℕ) (bytes more : List ℕ) (x y : State) (sh : Shared) (e e' : PairEnded)
+    → firsts more ≡ firsts bytes → seconds more ≡ seconds bytes
+    → Parts fr gr len more last.Nothing 0 x y sh e → Parts fr gr len bytes last.Nothing 0 x y sh e' → e ≡ e'
+alike fr gr len bytes more x y sh e e' f s a b =
     let n : length more ≡ length bytes = total more ∙ ap₂ _+_ f s ∙ sym (total bytes) in
-    let last : e .last ≡ e' .last = a .answers ∙ ap (lastOf []) n ∙ sym (b .answers) in
+    let ends : e .last ≡ e' .last = a .answers ∙ ap (lastOf last.Nothing) n ∙ sym (b .answers) in
     let steps : e .steps ≡ e' .steps = a .count ∙ ap (λ (n : ℕ). 0 + n) n ∙ sym (b .count) in
-    let first : e .first ≡ e' .first = sym (a .state-x) ∙ ap (λ (n : ℕ). stateAfter n x m) f ∙ b .state-x in
-    let second : e .second ≡ e' .second = sym (a .state-y) ∙ ap (λ (n : ℕ). stateAfter n y m) s ∙ b .state-y in
-    let mx : Agree (Own fr len) (e .mem) (e' .mem) = chain (flip (a .mem-x)) (rw f (b .mem-x)) in
-    let my : Agree (Own gr len) (e .mem) (e' .mem) = chain (flip (a .mem-y)) (rw s (b .mem-y)) in
-    let mem = joined fr gr len (e .mem) (e' .mem) (weaken (λ w p. inr p) mx) (weaken (λ w p. inr p) my) (chain (a .rest) (flip (b .rest))) in
-    λ i. record { last = last i; steps = steps i; first = first i; second = second i; mem = mem i }
+    let first : e .first ≡ e' .first = sym (a .state-x) ∙ ap (λ (n : ℕ). stateAfter n x sh) f ∙ b .state-x in
+    let second : e .second ≡ e' .second = sym (a .state-y) ∙ ap (λ (n : ℕ). stateAfter n y sh) s ∙ b .state-y in
+    let mx : Agree (Own fr len) (e .shared .mem) (e' .shared .mem) = chain (flip (a .mem-x)) (rw f (b .mem-x)) in
+    let my : Agree (Own gr len) (e .shared .mem) (e' .shared .mem) = chain (flip (a .mem-y)) (rw s (b .mem-y)) in
+    let mem = joined fr gr len (e .shared .mem) (e' .shared .mem) (weaken (λ w p. inr p) mx) (weaken (λ w p. inr p) my) (chain (a .rest) (flip (b .rest))) in
+    λ i. record { last = ends i; steps = steps i; first = first i; second = second i; shared = sharing (mem i) }
 
 -- the one after the other
-firsts-in-turn : (n k : ℕ) → firsts (zeros n ++ ones k) ≡ n
-unfolding zeros ones firsts
+firsts-in-turn : (n k : ℕ) → firsts (zeros n ++ oneBytes k) ≡ n
+unfolding zeros oneBytes firsts
 firsts-in-turn zero zero = refl
 firsts-in-turn zero (suc k) = firsts-in-turn zero k
 firsts-in-turn (suc n) k = ap suc (firsts-in-turn n k)
 
-seconds-in-turn : (n k : ℕ) → seconds (zeros n ++ ones k) ≡ k
-unfolding zeros ones seconds
+seconds-in-turn : (n k : ℕ) → seconds (zeros n ++ oneBytes k) ≡ k
+unfolding zeros oneBytes seconds
 seconds-in-turn zero zero = refl
 seconds-in-turn zero (suc k) = ap suc (seconds-in-turn zero k)
 seconds-in-turn (suc n) k = seconds-in-turn n k
 
-module _ (bytes : List ℕ) (x y : State) (m : List ℕ) (apart : Apart (x .frame) (y .frame) (length m)) (s : Smooth (together bytes x y m)) where
-  parts : Parts (x .frame) (y .frame) (length m) bytes [] 0 x y m (together bytes x y m)
+module _ (bytes : List ℕ) (x y : State) (sh : Shared) (apart : Apart (x .frame) (y .frame) (length (sh .mem))) (s : Smooth bytes x y sh) where
+  parts : Parts (x .frame) (y .frame) (length (sh .mem)) bytes last.Nothing 0 x y sh (together bytes x y sh)
   unfolding Claim
-  parts = all (x .frame) (y .frame) (length m) apart bytes [] 0 x y m refl refl refl s
+  parts = all (x .frame) (y .frame) (length (sh .mem)) apart bytes last.Nothing 0 x y sh refl refl refl s
 
-  any-order : (more : List ℕ) → firsts more ≡ firsts bytes → seconds more ≡ seconds bytes → together more x y m ≡ together bytes x y m
+  any-smooth : (more : List ℕ) → firsts more ≡ firsts bytes → seconds more ≡ seconds bytes → Smooth more x y sh
+  any-smooth more f g = smooth (x .frame) (y .frame) (length (sh .mem)) apart more x y sh refl refl refl (rw f (parts .steps-x)) (rw g (parts .steps-y))
+
+  any-order : (more : List ℕ) → firsts more ≡ firsts bytes → seconds more ≡ seconds bytes → together more x y sh ≡ together bytes x y sh
   unfolding Claim
   any-order more f g =
-      let a : Steps (firsts more) x m = rw f (parts .steps-x) in
-      let b : Steps (seconds more) y m = rw g (parts .steps-y) in
-      let t = smooth (x .frame) (y .frame) (length m) apart more [] 0 x y m refl refl refl a b (inl refl) in
-      alike (x .frame) (y .frame) (length m) bytes more x y m (together more x y m) (together bytes x y m) f g
-      (all (x .frame) (y .frame) (length m) apart more [] 0 x y m refl refl refl t) parts
+      alike (x .frame) (y .frame) (length (sh .mem)) bytes more x y sh (together more x y sh) (together bytes x y sh) f g
+      (all (x .frame) (y .frame) (length (sh .mem)) apart more last.Nothing 0 x y sh refl refl refl (any-smooth more f g)) parts
 
-  first-alone : (m' : List ℕ) → Agree (Own (x .frame) (length m)) m m' → AsAlone (firsts bytes) x m' (together bytes x y m .first) (together bytes x y m .mem)
-  first-alone m' h =
-      let w = walk-same (Own (x .frame) (length m)) (length m) (firsts bytes) x m m' (λ w o. o) refl h (parts .steps-x) in
-      as-alone (firsts bytes) x m' (together bytes x y m .first) (together bytes x y m .mem) (w .steps) (w .state ∙ parts .state-x)
+  first-alone : (sh' : Shared) → Agree (Own (x .frame) (length (sh .mem))) (sh .mem) (sh' .mem)
+      → AsAlone (firsts bytes) x sh' (together bytes x y sh .first) (together bytes x y sh .shared)
+  first-alone sh' h =
+      let w = walk-same (Own (x .frame) (length (sh .mem))) (length (sh .mem)) (firsts bytes) x sh sh' (λ w o. o) refl h (parts .steps-x) in
+      as-alone (firsts bytes) x sh' (together bytes x y sh .first) (together bytes x y sh .shared) (w .steps) (w .state ∙ parts .state-x)
       (rw (← (h .long)) (chain (flip (w .mem)) (parts .mem-x)))
 
-  second-alone : (m' : List ℕ) → Agree (Own (y .frame) (length m)) m m' → AsAlone (seconds bytes) y m' (together bytes x y m .second) (together bytes x y m .mem)
-  second-alone m' h =
-      let w = walk-same (Own (y .frame) (length m)) (length m) (seconds bytes) y m m' (λ w o. o) refl h (parts .steps-y) in
-      as-alone (seconds bytes) y m' (together bytes x y m .second) (together bytes x y m .mem) (w .steps) (w .state ∙ parts .state-y)
+  second-alone : (sh' : Shared) → Agree (Own (y .frame) (length (sh .mem))) (sh .mem) (sh' .mem)
+      → AsAlone (seconds bytes) y sh' (together bytes x y sh .second) (together bytes x y sh .shared)
+  second-alone sh' h =
+      let w = walk-same (Own (y .frame) (length (sh .mem))) (length (sh .mem)) (seconds bytes) y sh sh' (λ w o. o) refl h (parts .steps-y) in
+      as-alone (seconds bytes) y sh' (together bytes x y sh .second) (together bytes x y sh .shared) (w .steps) (w .state ∙ parts .state-y)
       (rw (← (h .long)) (chain (flip (w .mem)) (parts .mem-y)))
 
 pub undisturbed : Demand3
 unfolding Demand3
-undisturbed bytes x y m apart s =
+undisturbed bytes x y sh apart s =
     record {
-      first = first-alone bytes x y m apart s;
-      second = second-alone bytes x y m apart s;
-      rest = parts bytes x y m apart s .rest;
-      steps = omega (arith, parts bytes x y m apart s .count);
-      orders = any-order bytes x y m apart s;
+      first = first-alone bytes x y sh apart s;
+      second = second-alone bytes x y sh apart s;
+      rest = parts bytes x y sh apart s .rest;
+      steps = omega (arith, parts bytes x y sh apart s .count);
+      smooth = any-smooth bytes x y sh apart s;
+      orders = any-order bytes x y sh apart s;
       one-by-one =
-          any-order bytes x y m apart s (zeros (firsts bytes) ++ ones (seconds bytes))
+          any-order bytes x y sh apart s (zeros (firsts bytes) ++ oneBytes (seconds bytes))
           (firsts-in-turn (firsts bytes) (seconds bytes)) (seconds-in-turn (firsts bytes) (seconds bytes));
     }

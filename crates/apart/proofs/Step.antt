@@ -1,154 +1,155 @@
 -- A step depends on the words of its two fields alone and, where it steps, changes words of its data field alone: once for
 -- every instruction. Assumes nothing.
 use Prim.Native.Nat.{ℕ}
-use mathlib.Core.Path.{_≡_, refl, sym, ap, _∙_, fun-ext}
+use mathlib.Core.Path.{_≡_, refl, ap, fun-ext}
 use mathlib.Core.Logic.{inl, inr}
 use mathlib.Core.List.{List}
-use native.Mathlib.Omega.{arith}
 use lib.ListN.{length}
-use Rattle.machine.specs.declared.Frame.{Frame}
-use Rattle.machine.specs.declared.Registers.{Registers}
-use Rattle.machine.specs.declared.State.{State}
 use Rattle.machine.specs.declared.ParcelAddr.{ParcelAddr}
 use Rattle.machine.specs.declared.Fetched.{Fetched}
 use Rattle.machine.specs.declared.Fetched.the-variants.{Parcel, Outside}
 use Rattle.machine.specs.declared.Work.{Work}
-use Rattle.machine.specs.declared.Work.the-variants.{Next, NormalExit, ErrorExit, OperandRange, ProgramRange, Unheld, Unfetched}
+use Rattle.machine.specs.declared.Work.the-variants.{PastOne, PastTwo, To, NormalExit, ErrorExit, OperandRange, ProgramRange, NotHeld, MonitorFetch}
 use Rattle.machine.specs.declared.Answer.the-variants.{Stepped}
 use Rattle.machine.specs.Parcel.{onward}
-use Rattle.machine.specs.State.{user, apply}
+use Rattle.machine.specs.State.{Frame, Registers, State, Shared, user, apply}
 use Rattle.machine.specs.Memory.{dataField, anyOutside, fetchOf}
-use Rattle.machine.specs.Act.{Act, Does, Goes, NewXA, Reads, Writes, LeavesNormally, LeavesByError, act}
+use Rattle.machine.specs.Act.{Act, Does, Goes, Reads, Writes, LeavesNormally, LeavesByError, act}
 use Rattle.machine.specs.Codes.{Code, None, One, Two, codeOf}
-use Rattle.machine.specs.Work.{Done, done, ranged, perform, noParcel, withParcel, execute, workOf}
-use Rattle.machine.specs.Step.{Out, out, exchange, finish, finishOf, stepOf}
+use Rattle.machine.specs.Work.{Present, NoParcel, Unheld, Has, withParcel, decoded, presentOf, Done, done, outside, ranged, perform, noParcel, statusOf, doneWith, workOf}
+use Rattle.machine.specs.Step.{exchange, stepped, finish, finishOf, stepOf}
+use Rattle.laws.proofs.Laws.{work-all}
+use Rattle.laws.proofs.Answers.{distinct}
 use Rattle.apart.specs.Statement.{In, Own, Agree}
 use Rattle.apart.proofs.Agree.{Only, itself, weaken, load-agree, fetch-agree, stores-agree, stores-only}
 
--- two memories of which every fetch gives the same: whatever holds of each act, no code and no parcel in both, holds of the work
-module _ (fr : Frame) (r : Registers) (m m' : List ℕ) (fetched : (p : ℕ) → fetchOf fr m' p ≡ fetchOf fr m p) (Q : Done → Done → Type 0)
-    (acts : (past : ℕ) (a : Act) → Q (perform fr r past m a) (perform fr r past m' a))
-    (idle : (w : Work) → Q (done w r m) (done w r m')) where
-  execute-both : (p : ℕ) (c : Code) (x : ℕ) → Q (execute fr r p m c x) (execute fr r p m' c x)
-  unfolding execute
-  execute-both p None x = idle Unheld
-  execute-both p (One n) x = acts (onward p 1) (act n fr r x 0 (onward p 1))
-  execute-both p (Two n) x = rw (fetched (onward p 1)) (go (fetchOf fr m (onward p 1)))
-    where
-      go : (o : Fetched) →
-          Q (withParcel o (done (noParcel (user fr)) r m) (λ y. perform fr r (onward p 2) m (act n fr r x y (onward p 2))))
-          (withParcel o (done (noParcel (user fr)) r m') (λ y. perform fr r (onward p 2) m' (act n fr r x y (onward p 2))))
-      go Outside = idle (noParcel (user fr))
-      go (Parcel y) = acts (onward p 2) (act n fr r x y (onward p 2))
+-- where every fetch gives the same, the same stands at p
+present-same : (fr : Frame) (m m' : List ℕ) → ((p : ℕ) → fetchOf fr m p ≡ fetchOf fr m' p) → (p : ℕ) → presentOf fr m p ≡ presentOf fr m' p
+unfolding presentOf decoded
+present-same fr m m' fetched p = rw (fetched p) (go (fetchOf fr m' p))
+  where
+    parcel : (x : ℕ) (c : Code) → decoded fr m p x c ≡ decoded fr m' p x c
+    parcel x None = refl
+    parcel x (One n) = refl
+    parcel x (Two n) = rw (fetched (onward p 1))
 
-  pub work-both : (p : ℕ) → Q (workOf fr r p m) (workOf fr r p m')
-  unfolding workOf
-  work-both p = rw (fetched p) (go (fetchOf fr m p))
-    where
-      go : (o : Fetched) →
-          Q (withParcel o (done (noParcel (user fr)) r m) (λ x. execute fr r p m (codeOf (user fr) x) x))
-          (withParcel o (done (noParcel (user fr)) r m') (λ x. execute fr r p m' (codeOf (user fr) x) x))
-      go Outside = idle (noParcel (user fr))
-      go (Parcel x) = execute-both p (codeOf (user fr) x) x
+    go : (o : Fetched) → withParcel o (λ x. decoded fr m p x (codeOf (user fr) x)) ≡ withParcel o (λ x. decoded fr m' p x (codeOf (user fr) x))
+    go Outside = refl
+    go (Parcel x) = parcel x (codeOf (user fr) x)
 
 -- two works that end alike with the same registers, and memories that agree where P holds
 pub record Same (P : ℕ → Type 0) (d d' : Done) : Type 0 where
   pub work : d .work ≡ d' .work
   pub registers : d .registers ≡ d' .registers
-  pub mem : Agree P (d .mem) (d' .mem)
+  pub mem : Agree P (d .shared .mem) (d' .shared .mem)
 
 -- the work in two memories that agree on the two fields, and perhaps on more
 module _ (fr : Frame) (r : Registers) (P : ℕ → Type 0) (len : ℕ) (own : (w : ℕ) → Own fr len w → P w)
-    (m m' : List ℕ) (long : length m ≡ len) (h : Agree P m m') where
-  perform-same : (past : ℕ) (a : Act) → Same P (perform fr r past m a) (perform fr r past m' a)
-  unfolding perform
-  perform-same past (Does u) = record { work = refl; registers = refl; mem = h }
-  perform-same past (Goes q u) = record { work = refl; registers = refl; mem = h }
-  perform-same past (NewXA x) = record { work = refl; registers = refl; mem = h }
-  perform-same past (Reads n at put) =
+    (sh sh' : Shared) (long : length (sh .mem) ≡ len) (h : Agree P (sh .mem) (sh' .mem)) where
+  idle-same : (w : Work) → Same P (done w r sh) (done w r sh')
+  idle-same w = record { work = refl; registers = refl; mem = h }
+
+  perform-same : (parcels : ℕ) (a : Act) → Same P (perform fr r parcels sh a) (perform fr r parcels sh' a)
+  unfolding perform outside
+  perform-same parcels (Does put) = record { work = refl; registers = refl; mem = h }
+  perform-same parcels (Goes q put) = record { work = refl; registers = refl; mem = h }
+  perform-same parcels (Reads n at put) =
       record {
-        work = ap (λ (l : ℕ). ranged (user fr) (r .ior) past (anyOutside (dataField fr) at l n)) (h .long);
+        work = ap (λ (l : ℕ). ranged (user fr) (r .ior) parcels (anyOutside (dataField fr) at l n)) (h .long);
         registers =
             ap (λ (word : ℕ → ℕ). apply (put word) r)
-            (fun-ext (λ e. load-agree (dataField fr) len m m' (at e) long (weaken (λ w q. own w (inr q)) h)));
+            (fun-ext (λ e. load-agree (dataField fr) len (sh .mem) (sh' .mem) (at e) long (weaken (λ w q. own w (inr q)) h)));
         mem = h;
       }
-  perform-same past (Writes n at val) =
+  perform-same parcels (Writes n at val) =
       record {
-        work = ap (λ (l : ℕ). ranged (user fr) (r .ior) past (anyOutside (dataField fr) at l n)) (h .long);
+        work = ap (λ (l : ℕ). ranged (user fr) (r .ior) parcels (anyOutside (dataField fr) at l n)) (h .long);
         registers = refl;
-        mem = stores-agree (dataField fr) at val n m m' h;
+        mem = stores-agree (dataField fr) at val n (sh .mem) (sh' .mem) h;
       }
-  perform-same past LeavesNormally = record { work = refl; registers = refl; mem = h }
-  perform-same past LeavesByError = record { work = refl; registers = refl; mem = h }
+  perform-same parcels LeavesNormally = idle-same NormalExit
+  perform-same parcels LeavesByError = idle-same ErrorExit
 
-  pub work-same : (p : ℕ) → Same P (workOf fr r p m) (workOf fr r p m')
-  work-same =
-      work-both fr r m m' (λ p. sym (fetch-agree fr len m m' p long (weaken (λ w q. own w (inl q)) h))) (Same P)
-      perform-same (λ w. record { work = refl; registers = refl; mem = h })
+  done-same : (p : ℕ) (o : Present) → Same P (doneWith fr r p sh o) (doneWith fr r p sh' o)
+  unfolding doneWith
+  done-same p NoParcel = idle-same (noParcel (user fr))
+  done-same p Unheld = idle-same NotHeld
+  done-same p (Has n x m parcels) = perform-same parcels (act r (statusOf fr r) x m (onward p parcels) n)
+
+  pub work-same : (p : ℕ) → Same P (workOf fr r p sh) (workOf fr r p sh')
+  unfolding workOf
+  work-same p =
+      let fetched : (q : ℕ) → fetchOf fr (sh .mem) q ≡ fetchOf fr (sh' .mem) q
+      = λ q. fetch-agree fr len (sh .mem) (sh' .mem) q long (weaken (λ w i. own w (inl i)) h) in
+      rw (present-same fr (sh .mem) (sh' .mem) fetched p) (done-same p (presentOf fr (sh' .mem) p))
 
 -- the work changes only words of the data field
-perform-only : (fr : Frame) (r : Registers) (past len : ℕ) (m : List ℕ) (a : Act) → length m ≡ len → Only (In (dataField fr) len) m (perform fr r past m a .mem)
+perform-only : (fr : Frame) (r : Registers) (parcels len : ℕ) (sh : Shared) (a : Act) → length (sh .mem) ≡ len
+    → Only (In (dataField fr) len) (sh .mem) (perform fr r parcels sh a .shared .mem)
 unfolding perform
-perform-only fr r past len m (Does u) e = itself m
-perform-only fr r past len m (Goes q u) e = itself m
-perform-only fr r past len m (NewXA x) e = itself m
-perform-only fr r past len m (Reads n at put) e = itself m
-perform-only fr r past len m (Writes n at val) e = stores-only (dataField fr) len at val n m e
-perform-only fr r past len m LeavesNormally e = itself m
-perform-only fr r past len m LeavesByError e = itself m
+perform-only fr r parcels len sh (Does put) e = itself (sh .mem)
+perform-only fr r parcels len sh (Goes q put) e = itself (sh .mem)
+perform-only fr r parcels len sh (Reads n at put) e = itself (sh .mem)
+perform-only fr r parcels len sh (Writes n at val) e = stores-only (dataField fr) len at val n (sh .mem) e
+perform-only fr r parcels len sh LeavesNormally e = itself (sh .mem)
+perform-only fr r parcels len sh LeavesByError e = itself (sh .mem)
 
-pub work-only : (fr : Frame) (r : Registers) (p len : ℕ) (m : List ℕ) → length m ≡ len → Only (In (dataField fr) len) m (workOf fr r p m .mem)
-work-only fr r p len m e =
-    work-both fr r m m (λ p. refl) (λ d d'. Only (In (dataField fr) len) m (d .mem)) (λ past a. perform-only fr r past len m a e) (λ w. itself m) p
+pub work-only : (fr : Frame) (r : Registers) (p len : ℕ) (sh : Shared) → length (sh .mem) ≡ len
+    → Only (In (dataField fr) len) (sh .mem) (workOf fr r p sh .shared .mem)
+work-only fr r p len sh e =
+    work-all fr r p sh (λ d. Only (In (dataField fr) len) (sh .mem) (d .shared .mem))
+    (λ n x m parcels h l. perform-only fr r parcels len sh _ e) (itself (sh .mem)) (itself (sh .mem))
 
--- a step that stepped is its work, and P goes on
-finish-next : (st : State) (w : Work) (r : Registers) (m : List ℕ) → finish st w r m .answer ≡ Stepped → (q : ParcelAddr) × (w ≡ Next q)
+-- a step that stepped is its work, and P goes to q
+abbrev GoesTo : State → Work → Registers → Type 0
+GoesTo x w r = (q : ParcelAddr) × ((sh : Shared) → finish x w r sh ≡ stepped (x .frame) r q sh)
+
+finish-next : (x : State) (w : Work) (r : Registers) (sh : Shared) → finish x w r sh .answer ≡ Stepped → GoesTo x w r
 unfolding finish exchange
-finish-next st (Next q) r m e = (q, refl)
-finish-next st (NormalExit q) r m e = let z : _≡_ {A = ℕ} 0 1 = cc in absurd (omega arith)
-finish-next st (ErrorExit q) r m e = let z : _≡_ {A = ℕ} 0 1 = cc in absurd (omega arith)
-finish-next st (OperandRange q) r m e = let z : _≡_ {A = ℕ} 0 1 = cc in absurd (omega arith)
-finish-next st ProgramRange r m e = let z : _≡_ {A = ℕ} 0 1 = cc in absurd (omega arith)
-finish-next st Unheld r m e = let z : _≡_ {A = ℕ} 0 1 = cc in absurd (omega arith)
-finish-next st Unfetched r m e = let z : _≡_ {A = ℕ} 0 1 = cc in absurd (omega arith)
+finish-next x PastOne r sh e = (_, λ s. refl)
+finish-next x PastTwo r sh e = (_, λ s. refl)
+finish-next x (To q) r sh e = (q, λ s. refl)
+finish-next x NormalExit r sh e = absurd (distinct (cc))
+finish-next x ErrorExit r sh e = absurd (distinct (cc))
+finish-next x (OperandRange n) r sh e = absurd (distinct (cc))
+finish-next x ProgramRange r sh e = absurd (distinct (cc))
+finish-next x NotHeld r sh e = absurd (distinct (cc))
+finish-next x MonitorFetch r sh e = absurd (distinct (cc))
 
-abbrev workAt : State → List ℕ → Done
-workAt x m = workOf (x .frame) (x .registers) (x .p .0) m
+abbrev workAt : State → Shared → Done
+workAt x sh = workOf (x .frame) (x .registers) (x .p .0) sh
 
-abbrev goneTo : State → ParcelAddr → Done → Out
-goneTo x q d = out Stepped (record { p = q; registers = d .registers; frame = x .frame }) (d .mem)
-
-step-work : (x : State) (m : List ℕ) (q : ParcelAddr) → workAt x m .work ≡ Next q → stepOf x m ≡ goneTo x q (workAt x m)
-unfolding stepOf finishOf finish
-step-work x m q e = rw e
-
-step-next : (x : State) (m : List ℕ) → stepOf x m .answer ≡ Stepped → (q : ParcelAddr) × (workAt x m .work ≡ Next q)
+step-next : (x : State) (sh : Shared) → stepOf x sh .answer ≡ Stepped → GoesTo x (workAt x sh .work) (workAt x sh .registers)
 unfolding stepOf finishOf
-step-next x m e = finish-next x (workAt x m .work) (workAt x m .registers) (workAt x m .mem) e
+step-next x sh e = finish-next x (workAt x sh .work) (workAt x sh .registers) (workAt x sh .shared) e
+
+-- from what is shared as sh' too, where the work ends alike
+step-work : (x : State) (sh sh' : Shared) (n : GoesTo x (workAt x sh .work) (workAt x sh .registers))
+    → workAt x sh .work ≡ workAt x sh' .work → workAt x sh .registers ≡ workAt x sh' .registers
+    → stepOf x sh' ≡ stepped (x .frame) (workAt x sh .registers) (n .0) (workAt x sh' .shared)
+unfolding stepOf finishOf
+step-work x sh sh' n w r = rw (← w, ← r) (n .1 (workAt x sh' .shared))
 
 -- so it keeps its frame, and changes only words of the data field
-pub step-frame : (x : State) (m : List ℕ) → stepOf x m .answer ≡ Stepped → stepOf x m .state .frame ≡ x .frame
-step-frame x m e =
-    let n = step-next x m e in
-    rw (step-work x m (n .0) (n .1))
+pub step-frame : (x : State) (sh : Shared) → stepOf x sh .answer ≡ Stepped → stepOf x sh .state .frame ≡ x .frame
+step-frame x sh e = rw (step-work x sh sh (step-next x sh e) refl refl)
 
-pub step-only : (x : State) (len : ℕ) (m : List ℕ) → length m ≡ len → stepOf x m .answer ≡ Stepped → Only (In (dataField (x .frame)) len) m (stepOf x m .mem)
-step-only x len m l e =
-    let n = step-next x m e in
-    rw (step-work x m (n .0) (n .1)) (work-only (x .frame) (x .registers) (x .p .0) len m l)
+pub step-only : (x : State) (len : ℕ) (sh : Shared) → length (sh .mem) ≡ len → stepOf x sh .answer ≡ Stepped
+    → Only (In (dataField (x .frame)) len) (sh .mem) (stepOf x sh .shared .mem)
+step-only x len sh l e =
+    rw (step-work x sh sh (step-next x sh e) refl refl) (work-only (x .frame) (x .registers) (x .p .0) len sh l)
 
 -- and it is the same step in a memory that agrees on its fields, and perhaps on more
-pub record SameStep (P : ℕ → Type 0) (x : State) (m m' : List ℕ) : Type 0 where
-  pub answer : stepOf x m' .answer ≡ Stepped
-  pub state : stepOf x m' .state ≡ stepOf x m .state
-  pub mem : Agree P (stepOf x m .mem) (stepOf x m' .mem)
+pub record SameStep (P : ℕ → Type 0) (x : State) (sh sh' : Shared) : Type 0 where
+  pub answer : stepOf x sh' .answer ≡ Stepped
+  pub state : stepOf x sh' .state ≡ stepOf x sh .state
+  pub mem : Agree P (stepOf x sh .shared .mem) (stepOf x sh' .shared .mem)
 
-pub step-same : (P : ℕ → Type 0) (x : State) (len : ℕ) (m m' : List ℕ) → ((w : ℕ) → Own (x .frame) len w → P w) → length m ≡ len → Agree P m m' → stepOf x m .answer ≡ Stepped
-    → SameStep P x m m'
-step-same P x len m m' own l h e =
-    let n = step-next x m e in
-    let s = work-same (x .frame) (x .registers) P len own m m' l h (x .p .0) in
-    let t = step-work x m (n .0) (n .1) in
-    let t' = step-work x m' (n .0) (sym (s .work) ∙ n .1) in
-    record { answer = rw t'; state = rw (t, t', s .registers); mem = rw (t, t') (s .mem) }
+pub step-same : (P : ℕ → Type 0) (x : State) (len : ℕ) (sh sh' : Shared) → ((w : ℕ) → Own (x .frame) len w → P w) → length (sh .mem) ≡ len
+    → Agree P (sh .mem) (sh' .mem) → stepOf x sh .answer ≡ Stepped → SameStep P x sh sh'
+step-same P x len sh sh' own l h e =
+    let n = step-next x sh e in
+    let s = work-same (x .frame) (x .registers) P len own sh sh' l h (x .p .0) in
+    let t = step-work x sh sh n refl refl in
+    let t' = step-work x sh sh' n (s .work) (s .registers) in
+    record { answer = rw t'; state = rw (t, t'); mem = rw (t, t') (s .mem) }

@@ -3,8 +3,7 @@ use Prim.Native.Nat.{ℕ, _+_, _*_, _≤_, _<_}
 use mathlib.Core.Path.{_≡_}
 use mathlib.Core.Logic.{_⊎_}
 use lib.ListN.{length}
-use Rattle.machine.specs.declared.Registers.{Registers}
-use Rattle.machine.specs.declared.State.{State}
+use Rattle.machine.specs.State.{Registers, State}
 use Rattle.machine.specs.Memory.{dataField}
 use Rattle.apart.specs.Statement.{In}
 

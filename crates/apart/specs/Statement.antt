@@ -6,9 +6,10 @@ use mathlib.Core.Path.{_≡_}
 use mathlib.Core.Logic.{_⊎_}
 use mathlib.Core.List.{List, [], _∷_, _++_}
 use lib.ListN.{length, getD}
-use Rattle.machine.specs.declared.Frame.{Frame}
-use Rattle.machine.specs.declared.State.{State}
 use Rattle.machine.specs.declared.Answer.the-variants.{Stepped}
+use Rattle.machine.specs.declared.Ending.the-variants as ending
+use Rattle.machine.specs.declared.Last.the-variants as last
+use Rattle.machine.specs.State.{Frame, State, Shared}
 use Rattle.machine.specs.Memory.{Field, codeField, dataField}
 use Rattle.machine.specs.Step.{stepOf}
 use Rattle.machine.specs.Run.{zeros, Ended, runOf, PairEnded, pairOf}
@@ -47,47 +48,50 @@ seconds [] = 0
 seconds (zero ∷ bytes) = seconds bytes
 seconds (suc b ∷ bytes) = suc (seconds bytes)
 
--- n ones, as `zeros` are n zeros
-unfoldable pub ones : ℕ → List ℕ
-ones zero = []
-ones (suc n) = 1 ∷ ones n
+-- n bytes 1, as `zeros` are n bytes 0
+unfoldable pub oneBytes : ℕ → List ℕ
+oneBytes zero = []
+oneBytes (suc n) = 1 ∷ oneBytes n
 
 -- a pair run from its beginning, and n steps of one processor alone
-abbrev pub together : List ℕ → State → State → List ℕ → PairEnded
-together bytes x y mem = pairOf bytes [] 0 x y mem
+abbrev pub together : List ℕ → State → State → Shared → PairEnded
+together bytes x y sh = pairOf bytes last.Nothing 0 x y sh
 
-abbrev pub alone : ℕ → State → List ℕ → Ended
-alone n x mem = runOf n 0 x mem
+abbrev pub alone : ℕ → State → Shared → Ended
+alone n x sh = runOf n 0 x sh
 
--- no step exchanges or stops: a pair run goes on only after a step that stepped, so that its last answer, if any, speaks for all
-abbrev pub Smooth : PairEnded → Type 0
-Smooth e = (e .last ≡ []) ⊎ (e .last ≡ Stepped ∷ [])
+-- no step of the schedule exchanges or stops: the processor that a byte names takes a step, and answers that it stepped
+abbrev pub Smooth : List ℕ → State → State → Shared → Type 0
+Smooth [] x y sh = Unit {0}
+Smooth (zero ∷ bytes) x y sh = (stepOf x sh .answer ≡ Stepped) × Smooth bytes (stepOf x sh .state) y (stepOf x sh .shared)
+Smooth (suc b ∷ bytes) x y sh = (stepOf y sh .answer ≡ Stepped) × Smooth bytes x (stepOf y sh .state) (stepOf y sh .shared)
 
--- x' and m' are what n steps of processor x alone in the memory m leave: each of them answers Stepped, the budget ends them,
--- the whole state is x', and m' has the same words in the processor's own two fields
-pub record AsAlone (n : ℕ) (x : State) (m : List ℕ) (x' : State) (m' : List ℕ) : Type 0 where
-  pub each : (k : ℕ) → k < n → stepOf (alone k x m .state) (alone k x m .mem) .answer ≡ Stepped
-  pub last : alone n x m .last ≡ Stepped
-  pub steps : alone n x m .steps ≡ n
-  pub state : alone n x m .state ≡ x'
-  pub fields : Agree (Own (x .frame) (length m)) (alone n x m .mem) m'
+-- x' and sh' are what n steps of processor x alone leave, from sh: each of them answers Stepped, the budget ends them, the whole
+-- state is x', and memory has the same words in the processor's own two fields
+pub record AsAlone (n : ℕ) (x : State) (sh : Shared) (x' : State) (sh' : Shared) : Type 0 where
+  pub each : (k : ℕ) → k < n → stepOf (alone k x sh .state) (alone k x sh .shared) .answer ≡ Stepped
+  pub ending : alone n x sh .ending ≡ ending.Budget
+  pub steps : alone n x sh .steps ≡ n
+  pub state : alone n x sh .state ≡ x'
+  pub fields : Agree (Own (x .frame) (length (sh .mem))) (alone n x sh .shared .mem) (sh' .mem)
 
--- how the schedule `bytes` ends, from x, y and m
-pub record Undisturbed (bytes : List ℕ) (x y : State) (m : List ℕ) : Type 0 where
+-- how the schedule `bytes` ends, from x, y and sh
+pub record Undisturbed (bytes : List ℕ) (x y : State) (sh : Shared) : Type 0 where
   -- each processor as alone, whatever stands outside its own two fields
-  pub first : (m' : List ℕ) → Agree (Own (x .frame) (length m)) m m' →
-      AsAlone (firsts bytes) x m' (together bytes x y m .first) (together bytes x y m .mem)
-  pub second : (m' : List ℕ) → Agree (Own (y .frame) (length m)) m m' →
-      AsAlone (seconds bytes) y m' (together bytes x y m .second) (together bytes x y m .mem)
+  pub first : (other : Shared) → Agree (Own (x .frame) (length (sh .mem))) (sh .mem) (other .mem) →
+      AsAlone (firsts bytes) x other (together bytes x y sh .first) (together bytes x y sh .shared)
+  pub second : (other : Shared) → Agree (Own (y .frame) (length (sh .mem))) (sh .mem) (other .mem) →
+      AsAlone (seconds bytes) y other (together bytes x y sh .second) (together bytes x y sh .shared)
   -- no word outside the two data fields changes
-  pub rest : Agree (Neither (x .frame) (y .frame) (length m)) (together bytes x y m .mem) m
+  pub rest : Agree (Neither (x .frame) (y .frame) (length (sh .mem))) (together bytes x y sh .shared .mem) (sh .mem)
   -- every step of the schedule is taken
-  pub steps : together bytes x y m .steps ≡ length bytes
-  -- any other order of as many steps of each ends just so, its last answer included: in it too no step exchanges or stops
-  pub orders : (other : List ℕ) → firsts other ≡ firsts bytes → seconds other ≡ seconds bytes → together other x y m ≡ together bytes x y m
+  pub steps : together bytes x y sh .steps ≡ length bytes
+  -- in any other order of as many steps of each no step exchanges or stops either, and it ends just so, its last answer included
+  pub smooth : (other : List ℕ) → firsts other ≡ firsts bytes → seconds other ≡ seconds bytes → Smooth other x y sh
+  pub orders : (other : List ℕ) → firsts other ≡ firsts bytes → seconds other ≡ seconds bytes → together other x y sh ≡ together bytes x y sh
   -- so does the one after the other
-  pub one-by-one : together (zeros (firsts bytes) ++ ones (seconds bytes)) x y m ≡ together bytes x y m
+  pub one-by-one : together (zeros (firsts bytes) ++ oneBytes (seconds bytes)) x y sh ≡ together bytes x y sh
 
 -- each has its steps undisturbed, in every order in which no step exchanges or stops
 unfoldable pub Demand3 : Type 0
-Demand3 = (bytes : List ℕ) (x y : State) (m : List ℕ) → Apart (x .frame) (y .frame) (length m) → Smooth (together bytes x y m) → Undisturbed bytes x y m
+Demand3 = (bytes : List ℕ) (x y : State) (sh : Shared) → Apart (x .frame) (y .frame) (length (sh .mem)) → Smooth bytes x y sh → Undisturbed bytes x y sh

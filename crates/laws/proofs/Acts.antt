@@ -97,9 +97,11 @@ marks-high f (suc n) l =
     go true h = omega arith
     go false h = omega arith
 
+-- so they fit a word
 marks-lt : (f : ℕ → Bool) (n : ℕ) → n ≤ 64 → marksOf f n < 2 ^ 64
 marks-lt f n l = omega (arith, marks-high f n l, pow-pos (64 - n))
 
+-- a word shifted right, and 24 bits with their sign, fit a word
 right-lt : {x : ℕ} (n : ℕ) → x < 2 ^ 64 → shiftRight x n < 2 ^ 64
 unfolding shiftRight
 right-lt {x} n h = lt-of-le-of-lt (shr-le x n) h
@@ -116,6 +118,7 @@ pub record Wide (r : Registers) (status m past : ℕ) : Type 0 where
   pub second : m < 2 ^ 16
   pub narrow : past < 2 ^ 24
 
+-- the operands, where L gives that
 module _ (L : Type 0) (r : Registers) (status x m past : ℕ) (k : L → Wide r status m past) where
   a-lt : L → (i : ℕ) → ai r i < 2 ^ 24
   a-lt l i = below-getD 24 (r .a) i (k l .lists .a)
@@ -141,10 +144,12 @@ module _ (L : Type 0) (r : Registers) (status x m past : ℕ) (k : L → Wide r 
   sk-lt : L → (i : ℕ) → sk r i < 2 ^ 64
   sk-lt l i = pick-lt (eqb i 0) (omega arith) (s-lt l i)
 
+  -- a branch writes nothing
   jump : (t : Bool) → ActOk L (branch t (ijkmOf x m))
   jump true = tt
   jump false = tt
 
+  -- instruction by instruction
   pub act-ok : (n : Instr) → ActOk L (act r status x m past n)
   unfolding act sum24 difference24 product24 sum64 difference64 merge shiftLeft shiftLeftPair shiftRightPair onesLeft onesRight parity
   act-ok I.ErrorExit = tt

@@ -29,6 +29,7 @@ pick-lt b {n = n} h g = picked (λ x. x < n) b h g
 pub low : (x w : ℕ) → x % 2 ^ w < 2 ^ w
 low x w = mod-lt x (pow-pos w)
 
+-- a list with one more number, with one changed, and a number of it
 pub below-cons : (n x : ℕ) (l : List ℕ) → x < n → below n l ≡ true → below n (x ∷ l) ≡ true
 unfolding below
 below-cons n x l h e = rw (lt-ltb x n h) e
@@ -47,6 +48,7 @@ below-getD w [] i e = pow-pos w
 below-getD w (x ∷ l) zero e = ltb-true x (2 ^ w) (and-eq-true-iff (ltb x (2 ^ w)) (below (2 ^ w) l) .0 e .0)
 below-getD w (x ∷ l) (suc i) e = below-getD w l i (and-eq-true-iff (ltb x (2 ^ w)) (below (2 ^ w) l) .0 e .1)
 
+-- places that become f 0, f 1, .., all below n
 module _ (n : ℕ) (f : ℕ → ℕ) (h : (e : ℕ) → f e < n) where
   pub below-fill : (at k : ℕ) (l : List ℕ) → below n l ≡ true → below n (fill at f k l) ≡ true
   unfolding fill
@@ -83,6 +85,7 @@ module _ (n : ℕ) (f : ℕ → ℕ) (h : (e : ℕ) → f e < n) where
         lt-ltb (f 7) n (h 7),
       )
 
+-- zeros are below any power
 pub below-zeros : (w k : ℕ) → below (2 ^ w) (zeros k) ≡ true
 unfolding zeros below
 below-zeros w zero = refl

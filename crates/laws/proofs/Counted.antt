@@ -7,6 +7,7 @@ use native.Mathlib.Omega.{arith}
 use native.Mathlib.Nat.{add-zero, zero-add, suc-add}
 use Rattle.machine.specs.declared.Answer.{Answer}
 use Rattle.machine.specs.declared.Answer.the-variants.{Stepped, Exchanged, NotHeld, MonitorFetch}
+use Rattle.machine.specs.declared.Ending.{Ending}
 use Rattle.machine.specs.declared.Ending.the-variants as ending
 use Rattle.machine.specs.State.{State, Shared}
 use Rattle.machine.specs.Step.{Out, stepOf, stops, counted}
@@ -50,7 +51,8 @@ run-on : (b n : ℕ) (st : State) (sh : Shared) → stops (stepOf st sh .answer)
 unfolding runOf
 run-on b n st sh e = rw (e, counts (stepOf st sh .answer) e)
 
-run-over : (b n : ℕ) (st : State) (sh : Shared) → stops (stepOf st sh .answer) ≡ true → runOf (suc b) n st sh ≡ ended (endingOf (stepOf st sh .answer)) n st sh
+pub run-over : (b n : ℕ) (st : State) (sh : Shared) → stops (stepOf st sh .answer) ≡ true
+    → runOf (suc b) n st sh ≡ ended (endingOf (stepOf st sh .answer)) n st sh
 unfolding runOf
 run-over b n st sh e =
     let o = step-stop st sh refl e in
@@ -73,23 +75,27 @@ pub run-stops : (k b n : ℕ) (st : State) (sh : Shared) → Goes k st sh → st
     → runOf (k + suc b) n st sh ≡ ended (endingOf (nextAnswer k st sh)) (n + k) (stateAfter k st sh) (sharedAfter k st sh)
 run-stops k b n st sh g s = run-takes k (suc b) n st sh g ∙ run-over b (n + k) (stateAfter k st sh) (sharedAfter k st sh) s
 
--- every run e is one of these two: it took k steps
+-- after k steps a run ends so: its budget was spent, or the next step stops
+abbrev pub Ends : ℕ → ℕ → State → Shared → Ending → Type 0
+Ends budget k st sh e = ((k ≡ budget) × (e ≡ ending.Budget)) ⊎ ((k < budget) × (stops (nextAnswer k st sh) ≡ true) × (e ≡ endingOf (nextAnswer k st sh)))
+
+-- every run e is one of these two
 pub record Took (budget n : ℕ) (st : State) (sh : Shared) (e : Ended) : Type 0 where
   pub k : ℕ
   pub goes : Goes k st sh
   pub steps : e .steps ≡ n + k
   pub state : e .state ≡ stateAfter k st sh
   pub shared : e .shared ≡ sharedAfter k st sh
-  pub over : ((k ≡ budget) × (e .ending ≡ ending.Budget)) ⊎ ((k < budget) × (stops (nextAnswer k st sh) ≡ true) × (e .ending ≡ endingOf (nextAnswer k st sh)))
+  pub over : Ends budget k st sh (e .ending)
 
 pub run-took : (budget n : ℕ) (st : State) (sh : Shared) → Took budget n st sh (runOf budget n st sh)
 unfolding runOf
 run-took zero n st sh = record { k = 0; goes = tt; steps = sym (add-zero n); state = refl; shared = refl; over = inl (refl, refl) }
 run-took (suc b) n st sh = go (stops (stepOf st sh .answer)) refl (run-took b (n + 1) (stepOf st sh .state) (stepOf st sh .shared))
   where
-    longer : {A B C : Type 0} {k : ℕ} → ((k ≡ b) × A) ⊎ ((k < b) × B × C) → ((suc k ≡ suc b) × A) ⊎ ((suc k < suc b) × B × C)
-    longer (inl h) = inl (omega (arith, h .0), h .1)
-    longer (inr h) = inr (omega (arith, h .0), h .1, h .2)
+    longer : (k : ℕ) (e : Ending) → Ends b k (stepOf st sh .state) (stepOf st sh .shared) e → Ends (suc b) (suc k) st sh e
+    longer k e (inl h) = inl (omega (arith, h .0), h .1)
+    longer k e (inr h) = inr (omega (arith, h .0), h .1, h .2)
 
     rest : Ended
     rest = runOf b (n + 1) (stepOf st sh .state) (stepOf st sh .shared)
@@ -101,4 +107,4 @@ run-took (suc b) n st sh = go (stops (stepOf st sh .answer)) refl (run-took b (n
         rw r (record { k = 0; goes = tt; steps = sym (add-zero n); state = refl; shared = refl; over = inr (omega arith, e, refl) })
     go false e h =
         rw (run-on b n st sh e)
-        (record { k = suc (h .k); goes = (e, h .goes); steps = h .steps ∙ omega arith; state = h .state; shared = h .shared; over = longer (h .over) })
+        (record { k = suc (h .k); goes = (e, h .goes); steps = h .steps ∙ omega arith; state = h .state; shared = h .shared; over = longer (h .k) _ (h .over) })

@@ -76,6 +76,7 @@ Idle MonitorFetch = Unit {0}
 abbrev Acted : Work → Type 0
 Acted w = Narrow w × (Idle w → ⊥)
 
+-- so is going past it, after an operand that may be outside, and each act
 past-acted : (parcels : ℕ) → Acted (past parcels)
 past-acted parcels = picked Acted (eqb parcels 1) (tt, λ z. z) (tt, λ z. z)
 
@@ -92,15 +93,17 @@ perform-acted fr r parcels sh (Writes n at val) l = ranged-acted (user fr) (r .i
 perform-acted fr r parcels sh LeavesNormally l = (tt, λ z. z)
 perform-acted fr r parcels sh LeavesByError l = (tt, λ z. z)
 
+-- a parcel outside takes P nowhere
 no-parcel-narrow : (user : Bool) → Narrow (noParcel user)
 unfolding noParcel
 no-parcel-narrow user = picked Narrow user tt tt
 
--- XA, VL, IOR and BDM keep their widths
+-- XA, VL, IOR and BDM keep their widths where others are written
 others : (r : Registers) → ControlOk r → {a s b t v : List ℕ} {vm : ℕ}
     → ControlOk (record { a = a; s = s; b = b; t = t; v = v; xa = r .xa; vl = r .vl; vm = vm; ior = r .ior; bdm = r .bdm })
 others r k = record { narrow = k .narrow; least = k .least; most = k .most; interrupt = k .interrupt; bidirectional = k .bidirectional }
 
+-- and where they are: what is written fits, whatever the state is
 apply-ok : (L : Type 0) (u : Put) (r : Registers) → PutOk L u → ControlOk r → ControlOk (apply u r)
 unfolding apply
 apply-ok L Nothing r h k = k
