@@ -1,92 +1,89 @@
--- Steps taken together: a burst ends before the first that does more than step, and a turn finishes that one. Assumes nothing.
-use Prim.Native.Nat.{ℕ, zero, suc, _+_, _<_, _≤_}
+-- Steps taken together on lent words: a burst while each only steps, then the end of the one that does more. Assumes nothing.
+use Prim.Native.Nat.{ℕ, zero, suc, _+_, _^_, _<_, _≤_}
 use mathlib.Core.Path.{_≡_}
 use mathlib.Core.Bool.{Bool, true, false}
-use mathlib.Core.List.{List, [], _∷_}
+use mathlib.Core.List.{List}
+use lib.ListN.{length}
 use lib.Dec.{eqb}
-use Rattle.machine.specs.declared.Frame.{Frame}
-use Rattle.machine.specs.declared.Registers.{Registers}
-use Rattle.machine.specs.declared.State.{State}
 use Rattle.machine.specs.declared.ParcelAddr.{ParcelAddr}
+use Rattle.machine.specs.declared.Reach.{Reach}
 use Rattle.machine.specs.declared.Work.{Work}
-use Rattle.machine.specs.declared.Work.the-variants.{Next, NormalExit, ErrorExit, OperandRange, ProgramRange, Unheld, Unfetched}
+use Rattle.machine.specs.declared.Work.the-variants as work
 use Rattle.machine.specs.declared.Answer.{Answer}
 use Rattle.machine.specs.declared.Answer.the-variants.{Stepped, Exchanged, NotHeld, MonitorFetch}
+use Rattle.machine.specs.declared.Ending.{Ending}
+use Rattle.machine.specs.declared.Ending.the-variants as ending
+use Rattle.machine.specs.declared.Last.{Last}
+use Rattle.machine.specs.declared.Last.the-variants.{Nothing, Was, Refused}
 use Rattle.machine.specs.Word.{pick}
-use Rattle.machine.specs.Work.{workOf}
-use Rattle.machine.specs.Step.{Out, finish, stepOf}
-use Rattle.machine.specs.Run.{Ended, ended}
-use Rattle.access.specs.Layout.{registers, frame}
+use Rattle.machine.specs.Parcel.{onward}
+use Rattle.machine.specs.State.{State, sharing, addr}
+use Rattle.machine.specs.Step.{Out, finish, counted}
+use Rattle.machine.specs.Run.{Turned, turned, turnOf, endingOf}
+use Rattle.machine.specs.Layout.{registersOf, frameOf}
+use Rattle.access.specs.Executed.{FrameOk, ControlOk}
+use Rattle.dispatch.specs.Table.{Ready}
+use Rattle.laws.proofs.Laws.{Narrow}
+use Rattle.turns.specs.declared.Moved.{Moved}
+use Rattle.turns.specs.declared.Moved.the-variants.{At, Ends}
 
--- a processor from its lists
-abbrev pub state : ParcelAddr → List ℕ → List ℕ → List ℕ → List ℕ → List ℕ → List ℕ → List ℕ → State
-state p a s b t v k q = record { p = p; registers = registers a s b t v k; frame = frame q }
+-- a processor's words whose P is p; place 0 is not looked at
+abbrev pub stateAt : ParcelAddr → List ℕ → State
+stateAt p r = record { p = p; registers = registersOf r; frame = frameOf r }
 
--- how far a burst came: P, its steps, and what the work of the next ended with
-pub record Burst : Type 0 where
-  pub p : ParcelAddr
-  pub steps : ℕ
-  pub work : Work
-  pub registers : Registers
-  pub mem : List ℕ
+-- where P goes after work that only steps
+abbrev pub movedTo : ℕ → Work → Moved
+movedTo p work.PastOne = At (addr (onward p 1))
+movedTo p work.PastTwo = At (addr (onward p 2))
+movedTo p (work.To q) = At q
+movedTo p work.NormalExit = Ends
+movedTo p work.ErrorExit = Ends
+movedTo p (work.OperandRange n) = Ends
+movedTo p work.ProgramRange = Ends
+movedTo p work.NotHeld = Ends
+movedTo p work.MonitorFetch = Ends
 
-abbrev pub burst : ParcelAddr → ℕ → Work → Registers → List ℕ → Burst
-burst p n w r mem = record { p = p; steps = n; work = w; registers = r; mem = mem }
+-- the last answer of n steps that each stepped
+abbrev pub lastAfter : ℕ → Last
+lastAfter zero = Nothing
+lastAfter (suc n) = Was Stepped
 
--- on where P goes on, and else at its end
-abbrev pub onNext : Work → (ParcelAddr → Burst) → (Work → Burst) → Burst
-onNext (Next q) rest end = rest q
-onNext (NormalExit q) rest end = end (NormalExit q)
-onNext (ErrorExit q) rest end = end (ErrorExit q)
-onNext (OperandRange q) rest end = end (OperandRange q)
-onNext ProgramRange rest end = end ProgramRange
-onNext Unheld rest end = end Unheld
-onNext Unfetched rest end = end Unfetched
+-- a turn that its last step ends, n having been counted before it
+abbrev pub turnedBy : ℕ → Out → Turned
+turnedBy n o = turned (Was (o .answer)) (n + counted (o .answer)) (o .state) (o .shared)
 
--- at most `budget` steps from p, n having been taken
-unfoldable pub burstOf : Frame → ℕ → ℕ → ParcelAddr → Registers → List ℕ → Burst
-burstOf fr zero n p r mem = burst p n (Next p) r mem
-burstOf fr (suc budget) n p r mem =
-    onNext (workOf fr r (p .0) mem .work)
-    (λ q. burstOf fr budget (suc n) q (workOf fr r (p .0) mem .registers) (workOf fr r (p .0) mem .mem))
-    (λ w. burst p n w (workOf fr r (p .0) mem .registers) (workOf fr r (p .0) mem .mem))
+-- how a turn ends whose burst took n steps and came to p: all its budget, or the next step's work ended with w
+abbrev pub burstEnd : ℕ → ParcelAddr → ℕ → Work → List ℕ → List ℕ → Turned
+burstEnd budget p n w r mem =
+    pick (eqb n budget) (turned (lastAfter n) n (stateAt p r) (sharing mem)) (turnedBy n (finish (stateAt p r) w (registersOf r) (sharing mem)))
 
--- after the answer of a step: the rest, or the end, which counts an exchange
-abbrev pub onStepped : Answer → ℕ → Ended → (ℕ → Ended) → Ended
-onStepped Stepped n rest end = rest
-onStepped (Exchanged flags) n rest end = end (suc n)
-onStepped (NotHeld p) n rest end = end n
-onStepped (MonitorFetch p) n rest end = end n
+-- a burst from r and mem to r′ and mem′: where P came, its steps, and the work of the next
+pub record Bursts (p : ParcelAddr) (n : ℕ) (w : Work) (r r′ mem mem′ : List ℕ) (f : Reach) (from : ParcelAddr) (budget : ℕ) : Type 0 where
+  pub ready : Ready r′ f (length mem′)
+  pub narrow : p .0 < 2 ^ 24
+  pub work : Narrow w
+  pub steps : n ≤ budget
+  pub turn : burstEnd budget p n w r′ mem′ ≡ turnOf budget Nothing 0 (stateAt from r) (sharing mem)
 
--- what a step came to after n that stepped, an exchange being counted
-abbrev pub counted : ℕ → Out → Ended
-counted n o = onStepped (o .answer) n (ended (o .answer) n (o .state) (o .mem)) (λ k. ended (o .answer) k (o .state) (o .mem))
+-- what a turn asks of the words and the memory that it is lent: numbers that fit, and 4,096 to 4,194,304 words
+pub record Fitting (r : List ℕ) (len : ℕ) : Type 0 where
+  pub long : length r ≡ 672
+  pub frame : FrameOk (frameOf r)
+  pub control : ControlOk (registersOf r)
+  pub processor : frameOf r .processor < 2
+  pub least : 4096 ≤ len
+  pub most : len ≤ 4194304
 
--- the end of a turn whose burst came so far: its next step is finished
-abbrev pub endOf : Frame → Burst → Ended
-endOf fr b = counted (b .steps) (finish (record { p = b .p; registers = b .registers; frame = fr }) (b .work) (b .registers) (b .mem))
+-- a turn's last answer is an exchange; else the ending of a run that it ends
+abbrev pub isExchange : Last → Bool
+isExchange Nothing = false
+isExchange (Was Stepped) = false
+isExchange (Was (Exchanged flags)) = true
+isExchange (Was (NotHeld p)) = false
+isExchange (Was (MonitorFetch p)) = false
+isExchange (Refused n) = false
 
--- at most `budget` steps up to and including the first that does not answer "stepped"
-unfoldable pub turnOf : ℕ → ℕ → State → List ℕ → Ended
-turnOf zero n st mem = ended Stepped n st mem
-turnOf (suc budget) n st mem =
-    onStepped (stepOf st mem .answer) n
-    (turnOf budget (suc n) (stepOf st mem .state) (stepOf st mem .mem))
-    (λ k. ended (stepOf st mem .answer) k (stepOf st mem .state) (stepOf st mem .mem))
-
--- how many steps a turn counts: all where it only stepped, some where it exchanged, never more than its budget
-abbrev pub Counts : ℕ → ℕ → Answer → ℕ → Type 0
-Counts b n Stepped k = k ≡ n + b
-Counts b n (Exchanged flags) k = (n < k) × (k ≤ n + b)
-Counts b n (NotHeld p) k = k ≤ n + b
-Counts b n (MonitorFetch p) k = k ≤ n + b
-
--- the answers of n steps that all stepped, as a pair run keeps them
-abbrev pub soFar : ℕ → List Answer
-soFar n = pick (eqb n 0) [] (Stepped ∷ [])
-
-abbrev pub stepped : Answer → Bool
-stepped Stepped = true
-stepped (Exchanged flags) = false
-stepped (NotHeld p) = false
-stepped (MonitorFetch p) = false
+abbrev pub lastEnding : Last → Ending
+lastEnding Nothing = ending.Budget
+lastEnding (Was o) = endingOf o
+lastEnding (Refused n) = ending.Refused n

@@ -1,19 +1,22 @@
-// Steps taken together, on lent registers: a burst while each only steps, a turn that finishes the one that does more.
+// Steps taken together on lent words: a burst while each only steps, a turn that finishes the one that does more.
 pub mod pair;
 pub mod run;
 
 ghost use mathlib.Core.Path.{_≡_};
 ghost use mathlib.Core.List.{List};
-ghost use Prim.Native.Nat.{ℕ, _+_, _^_, _<_, _≤_};
-ghost use lib.ListN.{length};
+ghost use Prim.Native.Nat.{ℕ, _^_, _<_, _≤_};
+ghost use lib.ListN.{length, getD};
 ghost use Rattle.machine.specs.declared.Answer.the-variants.{Exchanged};
-ghost use Rattle.machine.specs.Step.{out, inUserMode, exchange, finish};
-ghost use Rattle.machine.specs.Run.{ended};
-ghost use Rattle.access.specs.Layout.{registers, frame, Reaches, Inside, FrameOk, KOk};
-ghost use Rattle.turns.specs.Turn.{state, burst, burstOf, endOf, turnOf, Counts};
+ghost use Rattle.machine.specs.declared.Last.the-variants.{Nothing};
+ghost use Rattle.machine.specs.State.{sharing};
+ghost use Rattle.machine.specs.Step.{out, inUserMode, exchange, finish, counted};
+ghost use Rattle.machine.specs.Run.{turned, turnOf};
+ghost use Rattle.machine.specs.Layout.{registersOf, frameOf, stateOf};
+ghost use Rattle.dispatch.specs.Table.{Ready};
 ghost use Rattle.laws.proofs.Laws.{Narrow};
-use access::MM;
+ghost use Rattle.turns.specs.Turn.{stateAt, movedTo, lastAfter, Bursts, Fitting};
 use machine::Answer;
+use machine::Last;
 use machine::ParcelAddr;
 use machine::Reach;
 use machine::Work;
@@ -27,204 +30,173 @@ const PROGRAM_RANGE: u64 = 4;
 
 const OPERAND_RANGE: u64 = 8;
 
-// How far a burst came: P, its steps, and what the work of the next ended with.
-pub struct Came {
+// Where P goes after work that only steps, or that it does more.
+pub enum Moved {
+    At(ParcelAddr),
+    Ends,
+}
+
+// P moves here alone.
+fn moved(p: ParcelAddr, w: Work) -> Moved
+    ensures { λ o. ⌜ o ≡ movedTo (p .0) w ⌝ }
+{
+    match w {
+        Work::PastOne => Moved::At(access::on(p, 1)),
+        Work::PastTwo => Moved::At(access::on(p, 2)),
+        Work::To(q) => Moved::At(q),
+        Work::NormalExit => Moved::Ends,
+        Work::ErrorExit => Moved::Ends,
+        Work::OperandRange(_) => Moved::Ends,
+        Work::ProgramRange => Moved::Ends,
+        Work::NotHeld => Moved::Ends,
+        Work::MonitorFetch => Moved::Ends,
+    }
+}
+
+// How far a burst came: P, its steps, and how the work of the next ended, if it has one.
+pub struct Burst {
     pub p: ParcelAddr,
     pub steps: u64,
     pub work: Work,
 }
 
 // Steps until the budget is spent or one does more than step. The fields stay as they are all this time.
-fn take_burst(
-    a: &mut [u64; 8],
-    s: &mut [u64; 8],
-    b: &mut [u64; 64],
-    t: &mut [u64; 64],
-    v: &mut [u64; 512],
-    k: &mut [u64; 5],
-    q: &[u64; 10],
-    mem: &mut [u64],
-    f: Reach,
-    from: ParcelAddr,
-    budget: u64,
-) -> Came
-    requires { ⌜ KOk (now k) ⌝ }
-    requires { ⌜ FrameOk (frame (now q)) ⌝ }
-    requires { ⌜ Inside f (length (now mem)) ⌝ }
-    requires { ⌜ Reaches (frame (now q)) f (length (now mem)) ⌝ }
+fn take_burst(r: &mut [u64], mem: &mut [u64], f: Reach, from: ParcelAddr, budget: u64) -> Burst
+    requires { ⌜ Ready (now r) f (length (now mem)) ⌝ }
     requires { ⌜ from .0 < 2 ^ 24 ⌝ }
-    ensures { λ r. ⌜ burst (r .p) (r .steps) (r .work) (registers (now (a .exit)) (now (s .exit)) (now (b .exit)) (now (t .exit)) (now (v .exit)) (now (k .exit))) (now (mem .exit)) ≡ burstOf (frame (now (q .entry))) budget 0 from (registers (now (a .entry)) (now (s .entry)) (now (b .entry)) (now (t .entry)) (now (v .entry)) (now (k .entry))) (now (mem .entry)) ⌝ }
+    ensures { λ b. ⌜ Bursts (b .p) (b .steps) (b .work) (now (r .entry)) (now (r .exit)) (now (mem .entry)) (now (mem .exit)) f from budget ⌝ }
 {
     let mut p = from;
-    let mut n: u64 = 0;
-    while n < budget {
-        let w = dispatch::work(a, s, b, t, v, k, q, mem, f, p);
-        let Work::Next(next) = w else {
-            return Came {
+    let mut left = budget;
+    while left != 0 {
+        let w = dispatch::work(r, mem, f, p);
+        let Moved::At(next) = moved(p, w) else {
+            return Burst {
                 p,
-                steps: n,
+                steps: budget - left,
                 work: w,
             };
         };
         p = next;
-        n += 1;
+        left -= 1;
     }
-    Came {
+    Burst {
         p,
-        steps: n,
-        work: Work::Next(p),
+        steps: budget,
+        work: Work::To(p),
     }
-}
-
-// What a step comes to: P after it, and its answer.
-pub struct Finished {
-    pub p: ParcelAddr,
-    pub answer: Answer,
 }
 
 // The flag of an exit: set in user mode only.
-fn in_user_mode(q: &[u64; 10], flag: u64) -> u64
-    ensures { λ r. ⌜ r ≡ inUserMode (frame (now (q .entry))) flag ⌝ }
+fn in_user_mode(r: &[u64], flag: u64) -> u64
+    requires { ⌜ length (now r) ≡ 672 ⌝ }
+    ensures { λ n. ⌜ n ≡ inUserMode (frameOf (now (r .entry))) flag ⌝ }
 {
-    if q[MM] == 0 { flag } else { 0 }
+    if access::is_user(r) { flag } else { 0 }
 }
 
-// The exchange with its flags, P saved being past.
-fn leave(
-    a: &mut [u64; 8],
-    s: &mut [u64; 8],
-    k: &mut [u64; 5],
-    q: &mut [u64; 10],
-    mem: &mut [u64],
-    past: ParcelAddr,
-    flags: u64,
-) -> Finished
-    requires { ⌜ 4096 ≤ length (now mem) ⌝ }
-    requires { ⌜ FrameOk (frame (now q)) × KOk (now k) × (past .0 < 2 ^ 24) × (flags < 512) ⌝ }
-    ensures { λ r. ⌜ ((b t v : List ℕ) → out (r .answer) (state (r .p) (now (a .exit)) (now (s .exit)) b t v (now (k .exit)) (now (q .exit))) (now (mem .exit)) ≡ exchange (frame (now (q .entry))) (registers (now (a .entry)) (now (s .entry)) b t v (now (k .entry))) past flags (now (mem .entry))) ⌝ }
-    ensures { λ r. ⌜ KOk (now (k .exit)) × FrameOk (frame (now (q .exit))) × (r .p .0 < 2 ^ 24) ⌝ }
+// The exchange with its flags, P saved being p.
+fn leave(r: &mut [u64], mem: &mut [u64], p: ParcelAddr, flags: u64) -> Answer
+    requires { ⌜ Fitting (now r) (length (now mem)) ⌝ }
+    requires { ⌜ (p .0 < 2 ^ 24) × (flags < 512) ⌝ }
+    ensures { λ o. ⌜ out o (stateOf (now (r .exit))) (sharing (now (mem .exit))) ≡ exchange (frameOf (now (r .entry))) (registersOf (now (r .entry))) (p .0) flags (sharing (now (mem .entry))) ⌝ }
 {
-    let p = exchange::swap(a, s, k, q, mem, past, flags);
-    Finished {
-        p,
-        answer: Answer::Exchanged(flags),
-    }
+    exchange::swap(r, mem, p, flags);
+    Answer::Exchanged(flags)
 }
 
-// The rest of a step whose instruction stood at p: the exchange, where there is one.
-fn complete(
-    a: &mut [u64; 8],
-    s: &mut [u64; 8],
-    k: &mut [u64; 5],
-    q: &mut [u64; 10],
-    mem: &mut [u64],
-    p: ParcelAddr,
-    w: Work,
-) -> Finished
-    requires { ⌜ KOk (now k) ⌝ }
-    requires { ⌜ FrameOk (frame (now q)) ⌝ }
-    requires { ⌜ 4096 ≤ length (now mem) ⌝ }
-    requires { ⌜ p .0 < 2 ^ 24 ⌝ }
-    requires { ⌜ Narrow w ⌝ }
-    ensures { λ r. ⌜ ((b t v : List ℕ) → out (r .answer) (state (r .p) (now (a .exit)) (now (s .exit)) b t v (now (k .exit)) (now (q .exit))) (now (mem .exit)) ≡ finish (state p (now (a .entry)) (now (s .entry)) b t v (now (k .entry)) (now (q .entry))) w (registers (now (a .entry)) (now (s .entry)) b t v (now (k .entry))) (now (mem .entry))) ⌝ }
-    ensures { λ r. ⌜ KOk (now (k .exit)) × FrameOk (frame (now (q .exit))) × (r .p .0 < 2 ^ 24) ⌝ }
+// P becomes p.
+fn set_p(r: &mut [u64], p: ParcelAddr)
+    requires { ⌜ length (now r) ≡ 672 ⌝ }
+    ensures { λ _. ⌜ stateOf (now (r .exit)) ≡ stateAt p (now (r .entry)) ⌝ }
+{
+    r[access::P] = p.0;
+}
+
+// The end of a step whose instruction stood at p: P, the exchange or the stop.
+fn finish(r: &mut [u64], mem: &mut [u64], p: ParcelAddr, w: Work) -> Answer
+    requires { ⌜ Fitting (now r) (length (now mem)) ⌝ }
+    requires { ⌜ (p .0 < 2 ^ 24) × Narrow w ⌝ }
+    ensures { λ o. ⌜ out o (stateOf (now (r .exit))) (sharing (now (mem .exit))) ≡ finish (stateAt p (now (r .entry))) w (registersOf (now (r .entry))) (sharing (now (mem .entry))) ⌝ }
 {
     match w {
-        Work::Next(next) => Finished {
-            p: next,
-            answer: Answer::Stepped,
-        },
-        Work::NormalExit(past) => {
-            let flags = in_user_mode(q, NORMAL_EXIT);
-            leave(a, s, k, q, mem, past, flags)
+        Work::PastOne => {
+            set_p(r, access::on(p, 1));
+            Answer::Stepped
         }
-        Work::ErrorExit(past) => {
-            let flags = in_user_mode(q, ERROR_EXIT);
-            leave(a, s, k, q, mem, past, flags)
+        Work::PastTwo => {
+            set_p(r, access::on(p, 2));
+            Answer::Stepped
         }
-        Work::OperandRange(past) => leave(a, s, k, q, mem, past, OPERAND_RANGE),
-        Work::ProgramRange => leave(a, s, k, q, mem, p, PROGRAM_RANGE),
-        Work::Unheld => Finished {
-            p,
-            answer: Answer::NotHeld(p),
-        },
-        Work::Unfetched => Finished {
-            p,
-            answer: Answer::MonitorFetch(p),
-        },
+        Work::To(q) => {
+            set_p(r, q);
+            Answer::Stepped
+        }
+        Work::NormalExit => leave(r, mem, access::on(p, 1), in_user_mode(r, NORMAL_EXIT)),
+        Work::ErrorExit => leave(r, mem, access::on(p, 1), in_user_mode(r, ERROR_EXIT)),
+        Work::OperandRange(n) => leave(r, mem, access::on(p, n), OPERAND_RANGE),
+        Work::ProgramRange => leave(r, mem, p, PROGRAM_RANGE),
+        Work::NotHeld => {
+            set_p(r, p);
+            Answer::NotHeld(p)
+        }
+        Work::MonitorFetch => {
+            set_p(r, p);
+            Answer::MonitorFetch(p)
+        }
     }
 }
 
-// P after a turn, how many of its steps stepped or exchanged, and its last answer: Stepped where none was taken.
-pub struct Went {
-    pub p: ParcelAddr,
+// What an answer adds to the count of steps.
+fn count_of(answer: Answer) -> u64
+    ensures { λ n. ⌜ n ≡ counted answer ⌝ }
+{
+    match answer {
+        Answer::Stepped => 1,
+        Answer::Exchanged(_) => 1,
+        Answer::NotHeld(_) => 0,
+        Answer::MonitorFetch(_) => 0,
+    }
+}
+
+// The last answer of n steps that each stepped.
+fn last_after(n: u64) -> Last
+    ensures { λ l. ⌜ l ≡ lastAfter n ⌝ }
+{
+    if n == 0 {
+        Last::Nothing
+    } else {
+        Last::Was(Answer::Stepped)
+    }
+}
+
+// The last answer of a turn, and how many of its steps stepped or exchanged.
+pub struct Turned {
+    pub last: Last,
     pub steps: u64,
-    pub last: Answer,
 }
 
-// The end of a turn whose burst came so far: its next step is finished, and an exchange is counted.
-fn end_turn(
-    a: &mut [u64; 8],
-    s: &mut [u64; 8],
-    k: &mut [u64; 5],
-    q: &mut [u64; 10],
-    mem: &mut [u64],
-    came: Came,
-) -> Went
-    requires { ⌜ KOk (now k) × FrameOk (frame (now q)) × (4096 ≤ length (now mem)) ⌝ }
-    requires { ⌜ (came .p .0 < 2 ^ 24) × (came .steps < 2 ^ 32) × Narrow (came .work) ⌝ }
-    ensures { λ r. ⌜ ((b t v : List ℕ) → ended (r .last) (r .steps) (state (r .p) (now (a .exit)) (now (s .exit)) b t v (now (k .exit)) (now (q .exit))) (now (mem .exit)) ≡ endOf (frame (now (q .entry))) (burst (came .p) (came .steps) (came .work) (registers (now (a .entry)) (now (s .entry)) b t v (now (k .entry))) (now (mem .entry)))) ⌝ }
-    ensures { λ r. ⌜ KOk (now (k .exit)) × FrameOk (frame (now (q .exit))) × (r .p .0 < 2 ^ 24) ⌝ }
+// Steps up to and including the first that exchanges or stops, at most so many.
+pub fn turn(r: &mut [u64], mem: &mut [u64], budget: u64) -> Turned
+    requires { ⌜ Fitting (now r) (length (now mem)) ⌝ }
+    requires { ⌜ (getD (now r) 0 0 < 2 ^ 24) × (budget ≤ 1000000) ⌝ }
+    ensures { λ t. ⌜ turned (t .last) (t .steps) (stateOf (now (r .exit))) (sharing (now (mem .exit))) ≡ turnOf budget Nothing 0 (stateOf (now (r .entry))) (sharing (now (mem .entry))) ⌝ }
 {
-    let work = came.work;
-    let done = complete(a, s, k, q, mem, came.p, work);
-    let last = done.answer;
-    let p = done.p;
-    match last {
-        Answer::Stepped => Went {
-            p,
-            steps: came.steps,
-            last,
-        },
-        Answer::Exchanged(_) => Went {
-            p,
-            steps: came.steps + 1,
-            last,
-        },
-        Answer::NotHeld(_) => Went {
-            p,
-            steps: came.steps,
-            last,
-        },
-        Answer::MonitorFetch(_) => Went {
-            p,
-            steps: came.steps,
-            last,
-        },
+    let f = access::reach(r, mem);
+    let burst = take_burst(r, mem, f, ParcelAddr(r[access::P]), budget);
+    let p = burst.p;
+    let steps = burst.steps;
+    if steps == budget {
+        set_p(r, p);
+        return Turned {
+            last: last_after(steps),
+            steps,
+        };
     }
-}
-
-// Steps until the budget is spent or one does more than step; that one is finished.
-pub fn turn(
-    a: &mut [u64; 8],
-    s: &mut [u64; 8],
-    b: &mut [u64; 64],
-    t: &mut [u64; 64],
-    v: &mut [u64; 512],
-    k: &mut [u64; 5],
-    q: &mut [u64; 10],
-    mem: &mut [u64],
-    p: ParcelAddr,
-    budget: u64,
-) -> Went
-    requires { ⌜ KOk (now k) ⌝ }
-    requires { ⌜ FrameOk (frame (now q)) ⌝ }
-    requires { ⌜ (4096 ≤ length (now mem)) × (length (now mem) ≤ 2 ^ 22) ⌝ }
-    requires { ⌜ (p .0 < 2 ^ 24) × (budget < 2 ^ 32) ⌝ }
-    ensures { λ r. ⌜ ended (r .last) (r .steps) (state (r .p) (now (a .exit)) (now (s .exit)) (now (b .exit)) (now (t .exit)) (now (v .exit)) (now (k .exit)) (now (q .exit))) (now (mem .exit)) ≡ turnOf budget 0 (state p (now (a .entry)) (now (s .entry)) (now (b .entry)) (now (t .entry)) (now (v .entry)) (now (k .entry)) (now (q .entry))) (now (mem .entry)) ⌝ }
-    ensures { λ r. ⌜ KOk (now (k .exit)) × FrameOk (frame (now (q .exit))) × (r .p .0 < 2 ^ 24) × Counts budget 0 (r .last) (r .steps) ⌝ }
-{
-    let f = access::reach(q, mem);
-    let came = take_burst(a, s, b, t, v, k, q, mem, f, p, budget);
-    end_turn(a, s, k, q, mem, came)
+    let work = burst.work;
+    let answer = finish(r, mem, p, work);
+    Turned {
+        last: Last::Was(answer),
+        steps: steps + count_of(answer),
+    }
 }
