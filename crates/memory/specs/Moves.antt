@@ -4,15 +4,16 @@ use mathlib.Core.Path.{_≡_}
 use mathlib.Core.Bool.{Bool, true, false, _&&_, _||_}
 use mathlib.Core.List.{List}
 use lib.Dec.{eqb, leb}
+use lib.ListN.{getD}
 use Rattle.machine.specs.declared.Place.{Place}
 use Rattle.machine.specs.declared.Work.{Work}
 use Rattle.machine.specs.Word.{pick}
 use Rattle.machine.specs.State.{Registers, Frame, user, ai, si, Put, ToA, ToS}
-use Rattle.machine.specs.Memory.{isBeyond, storeAt}
+use Rattle.machine.specs.Memory.{isBeyond, loadAt, storeAt}
 use Rattle.machine.specs.Work.{ranged}
 use Rattle.machine.specs.Layout.{registersOf, frameOf}
 use Rattle.access.specs.Window.{extent, Inside, placeIn}
-use Rattle.access.specs.Executed.{Executes}
+use Rattle.access.specs.Executed.{Executes, cutTo, ringAt}
 use Rattle.memory.specs.declared.File.{File}
 use Rattle.memory.specs.declared.File.the-variants.{A, S}
 
@@ -47,9 +48,9 @@ pub record Held (first words len : ℕ) : Type 0 where
   pub low : first ≤ 2 ^ 22
   pub short : words ≤ 2 ^ 22
 
--- the places of the addresses A0, A0 + by, A0 + 2 by, ..
-abbrev pub rowIn : ℕ → ℕ → List ℕ → ℕ → ℕ → Place
-rowIn first words r by e = placeIn first words (ai (registersOf r) 0 + e * by)
+-- the places of the addresses from, from + by, from + 2 by, ..
+abbrev pub rowIn : ℕ → ℕ → ℕ → ℕ → (ℕ → Place)
+rowIn first words from by = λ e. placeIn first words (from + e * by)
 
 -- one of the first n places is outside
 unfoldable pub anyBeyond : (ℕ → Place) → ℕ → Bool
@@ -60,6 +61,16 @@ anyBeyond at (suc n) = anyBeyond at n || isBeyond (at n)
 unfoldable pub storesAt : (ℕ → Place) → (ℕ → ℕ) → ℕ → List ℕ → List ℕ
 storesAt at val zero mem = mem
 storesAt at val (suc n) mem = storeAt (storesAt at val n mem) (at n) (val n)
+
+-- from r to r′ n registers of the file at a place, from `reg` on, were read from a row of words; o says whether one lay outside
+pub record ReadRow (r r′ mem : List ℕ) (first words from by file reg n : ℕ) (narrow o : Bool) : Type 0 where
+  pub became : r′ ≡ ringAt file reg (λ e. cutTo narrow (loadAt mem (rowIn first words from by e))) n r
+  pub beyond : o ≡ anyBeyond (rowIn first words from by) n
+
+-- from mem to mem′ they were stored
+pub record StoredRow (r mem mem′ : List ℕ) (first words from by file reg n : ℕ) (o : Bool) : Type 0 where
+  pub became : mem′ ≡ storesAt (rowIn first words from by) (λ e. getD r (file + (reg + e) % 64) 0) n mem
+  pub beyond : o ≡ anyBeyond (rowIn first words from by) n
 
 -- how many of n words can be moved sixteen at a time: where they follow one another, the registers from `reg` on do not return to the first,
 -- and all words from `from` on are inside

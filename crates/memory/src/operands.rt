@@ -2,11 +2,12 @@
 ghost use mathlib.Core.Path.{_≡_};
 ghost use Prim.Native.Nat.{ℕ, _+_, _%_, _<_, _≤_};
 ghost use lib.ListN.{length, getD};
-ghost use Rattle.machine.specs.State.{fill};
+ghost use Rattle.machine.specs.State.{ai, fill};
 ghost use Rattle.machine.specs.Memory.{isBeyond, loadAt, storeAt};
+ghost use Rattle.machine.specs.Layout.{registersOf};
 ghost use Rattle.access.specs.Window.{placeIn};
-ghost use Rattle.access.specs.Executed.{cutTo, ringAt};
-ghost use Rattle.memory.specs.Moves.{Held, rowIn, anyBeyond, storesAt, straightOf};
+ghost use Rattle.access.specs.Executed.{cutTo};
+ghost use Rattle.memory.specs.Moves.{Held, ReadRow, StoredRow, straightOf};
 use machine::Place;
 
 // A word, and whether it lies outside its window, where it is zero.
@@ -75,7 +76,7 @@ pub fn read(
 ) -> bool
     requires { ⌜ (length (now r) ≡ 672) × (file + 64 ≤ 672) × (reg < 64) × (n < 128) ⌝ }
     requires { ⌜ Held first words (length (now mem)) ⌝ }
-    ensures { λ o. ⌜ (now (r .exit) ≡ ringAt file reg (λ e. cutTo narrow (loadAt (now (mem .entry)) (rowIn first words (now (r .entry)) by e))) n (now (r .entry))) × (o ≡ anyBeyond (rowIn first words (now (r .entry)) by) n) ⌝ }
+    ensures { λ o. ⌜ ReadRow (now (r .entry)) (now (r .exit)) (now (mem .entry)) first words (ai (registersOf (now (r .entry))) 0) by file reg n narrow o ⌝ }
 {
     let from = access::a_0(r);
     let whole = straight(words, reg, n, from, by);
@@ -107,7 +108,7 @@ pub fn store(
 ) -> bool
     requires { ⌜ (length (now r) ≡ 672) × (file + 64 ≤ 672) × (reg < 64) × (n < 128) ⌝ }
     requires { ⌜ Held first words (length (now mem)) ⌝ }
-    ensures { λ o. ⌜ (now (mem .exit) ≡ storesAt (rowIn first words (now (r .entry)) by) (λ e. getD (now (r .entry)) (file + (reg + e) % 64) 0) n (now (mem .entry))) × (o ≡ anyBeyond (rowIn first words (now (r .entry)) by) n) ⌝ }
+    ensures { λ o. ⌜ StoredRow (now (r .entry)) (now (mem .entry)) (now (mem .exit)) first words (ai (registersOf (now (r .entry))) 0) by file reg n o ⌝ }
 {
     let from = access::a_0(r);
     let whole = straight(words, reg, n, from, by);
