@@ -92,6 +92,10 @@ toBlock false jk n word = ToTs jk n word
 abbrev fromBlock : Bool → Registers → ℕ → ℕ → ℕ
 fromBlock b r jk e = getD (pick b (r .b) (r .t)) ((jk + e) % 64) 0
 
+pub block-low : (b : Bool) (n : ℕ) → n ≡ pick b 32 96 → n + 64 ≤ 672
+block-low true n e = omega arith
+block-low false n e = omega arith
+
 read-code : (b u : Bool) (x : ℕ) → x / 512 ≡ pick b 0o034 0o036 → codeOf u x ≡ One (blockRead b)
 unfolding codeOf
 read-code true u x e = rw e

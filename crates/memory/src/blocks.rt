@@ -1,9 +1,9 @@
 // Blocks of B and T registers and vectors, to and from memory: 034 to 037, 176 and 177. Each says whether a word lay outside the data field,
 // `words` words from `first` on; what that comes to is said by `access::ended`.
 ghost use mathlib.Core.Path.{_≡_};
-ghost use mathlib.Core.Logic.{_⊎_};
 ghost use Prim.Native.Nat.{_/_, _%_, _≤_};
 ghost use lib.ListN.{length};
+ghost use Rattle.machine.specs.Word.{pick};
 ghost use Rattle.machine.specs.Parcel.{iOf, jOf};
 ghost use Rattle.machine.specs.State.{ai};
 ghost use Rattle.machine.specs.Layout.{registersOf, frameOf};
@@ -18,34 +18,29 @@ fn block(r: &[u64], x: u64) -> usize
     (access::a_i(r, x) % 128) as usize
 }
 
-// 034, 036: registers of the file B or T from jk on, from memory.
-fn read_block(r: &mut [u64], mem: &[u64], first: usize, words: u64, x: u64, file: usize) -> bool
-    requires { ⌜ length (now r) ≡ 672 ⌝ }
-    requires { ⌜ ((file ≡ 32) × (x / 512 ≡ 0o034)) ⊎ ((file ≡ 96) × (x / 512 ≡ 0o036)) ⌝ }
+// The place of the B registers, or else of the T registers.
+fn place(b: bool) -> usize
+    ensures { λ n. ⌜ n ≡ pick b 32 96 ⌝ }
+{
+    if b { access::B } else { access::T }
+}
+
+// 034, 036: B or T registers from jk on, from memory.
+fn read_block(r: &mut [u64], mem: &[u64], first: usize, words: u64, x: u64, b: bool) -> bool
+    requires { ⌜ (length (now r) ≡ 672) × (x / 512 ≡ pick b 0o034 0o036) ⌝ }
     requires { ⌜ Window (frameOf (now r)) first words (length (now mem)) ⌝ }
     ensures { λ outside. ⌜ Moved outside (now (r .entry)) (now (r .exit)) (now (mem .entry)) (now (mem .entry)) x ⌝ }
 {
-    operands::read(
-        r,
-        mem,
-        first,
-        words,
-        file,
-        access::jk(x),
-        block(r, x),
-        1,
-        file == access::B,
-    )
+    operands::read(r, mem, first, words, place(b), access::jk(x), block(r, x), 1, b)
 }
 
 // 035, 037: the same to memory.
-fn store_block(r: &[u64], mem: &mut [u64], first: usize, words: u64, x: u64, file: usize) -> bool
-    requires { ⌜ length (now r) ≡ 672 ⌝ }
-    requires { ⌜ ((file ≡ 32) × (x / 512 ≡ 0o035)) ⊎ ((file ≡ 96) × (x / 512 ≡ 0o037)) ⌝ }
+fn store_block(r: &[u64], mem: &mut [u64], first: usize, words: u64, x: u64, b: bool) -> bool
+    requires { ⌜ (length (now r) ≡ 672) × (x / 512 ≡ pick b 0o035 0o037) ⌝ }
     requires { ⌜ Window (frameOf (now r)) first words (length (now mem)) ⌝ }
     ensures { λ outside. ⌜ Moved outside (now (r .entry)) (now (r .entry)) (now (mem .entry)) (now (mem .exit)) x ⌝ }
 {
-    operands::store(r, mem, first, words, file, access::jk(x), block(r, x), 1)
+    operands::store(r, mem, first, words, place(b), access::jk(x), block(r, x), 1)
 }
 
 // 034: B registers from memory.
@@ -54,7 +49,7 @@ pub fn read_b(r: &mut [u64], mem: &[u64], first: usize, words: u64, x: u64) -> b
     requires { ⌜ Window (frameOf (now r)) first words (length (now mem)) ⌝ }
     ensures { λ outside. ⌜ Moved outside (now (r .entry)) (now (r .exit)) (now (mem .entry)) (now (mem .entry)) x ⌝ }
 {
-    read_block(r, mem, first, words, x, access::B)
+    read_block(r, mem, first, words, x, true)
 }
 
 // 035: B registers to memory.
@@ -63,7 +58,7 @@ pub fn store_b(r: &[u64], mem: &mut [u64], first: usize, words: u64, x: u64) -> 
     requires { ⌜ Window (frameOf (now r)) first words (length (now mem)) ⌝ }
     ensures { λ outside. ⌜ Moved outside (now (r .entry)) (now (r .entry)) (now (mem .entry)) (now (mem .exit)) x ⌝ }
 {
-    store_block(r, mem, first, words, x, access::B)
+    store_block(r, mem, first, words, x, true)
 }
 
 // 036: T registers from memory.
@@ -72,7 +67,7 @@ pub fn read_t(r: &mut [u64], mem: &[u64], first: usize, words: u64, x: u64) -> b
     requires { ⌜ Window (frameOf (now r)) first words (length (now mem)) ⌝ }
     ensures { λ outside. ⌜ Moved outside (now (r .entry)) (now (r .exit)) (now (mem .entry)) (now (mem .entry)) x ⌝ }
 {
-    read_block(r, mem, first, words, x, access::T)
+    read_block(r, mem, first, words, x, false)
 }
 
 // 037: T registers to memory.
@@ -81,7 +76,7 @@ pub fn store_t(r: &[u64], mem: &mut [u64], first: usize, words: u64, x: u64) -> 
     requires { ⌜ Window (frameOf (now r)) first words (length (now mem)) ⌝ }
     ensures { λ outside. ⌜ Moved outside (now (r .entry)) (now (r .entry)) (now (mem .entry)) (now (mem .exit)) x ⌝ }
 {
-    store_block(r, mem, first, words, x, access::T)
+    store_block(r, mem, first, words, x, false)
 }
 
 // 176i0k: Vi from memory.
