@@ -1,19 +1,25 @@
--- The data field as a window: what is read and stored by places is what the definitions read and store by addresses. Assumes nothing.
+-- The data field as a window: what is read and stored by places is what the definitions read and store by addresses, and what they perform.
+-- Assumes nothing.
 use Prim.Native.Nat.{ℕ, zero, suc, _+_, _-_, _*_, _%_, _^_}
-use mathlib.Core.Path.{_≡_, refl, sym, _∙_, ap, fun-ext}
+use mathlib.Core.Path.{_≡_, refl, _∙_, ap, fun-ext}
 use mathlib.Core.Bool.{Bool, true, false}
 use mathlib.Core.List.{List}
 use native.Mathlib.Omega.{arith}
-use borrow.Author.Tests.{leb-true, leb-false}
+use borrow.Author.Tests.{leb-true}
 use lib.Dec.{leb}
 use lib.ListN.{length, length-set}
 use Rattle.machine.specs.declared.Place.{Place}
 use Rattle.machine.specs.declared.Place.the-variants.{At, Beyond}
 use Rattle.machine.specs.declared.Reach.{Reach}
+use Rattle.machine.specs.declared.Work.{Work}
 use Rattle.machine.specs.Word.{pick}
-use Rattle.machine.specs.State.{Frame}
-use Rattle.machine.specs.Memory.{Field, dataField, placeOf, storeAt, store, stores, anyOutside}
+use Rattle.machine.specs.State.{Frame, Registers, sharing, user, Put, apply}
+use Rattle.machine.specs.Memory.{Field, dataField, placeOf, storeAt, load, store, stores, anyOutside}
+use Rattle.machine.specs.Act.{Reads, Writes}
+use Rattle.machine.specs.Work.{ranged, done, outside, perform}
+use Rattle.machine.specs.Layout.{registersOf, frameOf}
 use Rattle.access.specs.Window.{Reaches, placeIn}
+use Rattle.access.specs.Executed.{Puts}
 use Rattle.access.proofs.Windows.{window}
 use Rattle.memory.specs.Moves.{Window, Held, rowIn, anyBeyond, storesAt}
 
@@ -21,6 +27,7 @@ use Rattle.memory.specs.Moves.{Window, Held, rowIn, anyBeyond, storesAt}
 pub reached : (fr : Frame) (f : Reach) (len : ℕ) → Reaches fr f len → Window fr (f .operands) (f .words) len
 reached fr f len h = record { dba = h .dba; size = h .size; start = h .operands; count = h .words }
 
+-- it lies in the memory, and its places are those of the field
 module _ (fr : Frame) (first words len : ℕ) (h : Window fr first words len) where
   pub held : Held first words len
   held = go (leb (fr .dla * 32) len) refl (h .count)
@@ -60,3 +67,23 @@ pub all-stored : (d : Field) (at val : ℕ → ℕ) (n : ℕ) (mem : List ℕ) �
 unfolding storesAt stores store
 all-stored d at val zero mem = refl
 all-stored d at val (suc n) mem = rw (← all-stored d at val n mem, stores-length (λ e. placeOf d (length mem) (at e)) val n mem)
+
+-- memory was read, and a register written that is not IOR
+pub reads : (w : Work) (r r′ mem : List ℕ) (parcels n : ℕ) (at : ℕ → ℕ) (put : (ℕ → ℕ) → Put) (o : Bool)
+    → w ≡ ranged (user (frameOf r′)) (registersOf r′ .ior) parcels o → Puts r r′ (put (λ e. load (dataField (frameOf r)) mem (at e)))
+    → apply (put (λ e. load (dataField (frameOf r)) mem (at e))) (registersOf r) .ior ≡ registersOf r .ior
+    → o ≡ anyOutside (dataField (frameOf r)) at (length mem) n
+    → done w (registersOf r′) (sharing mem) ≡ perform (frameOf r) (registersOf r) parcels (sharing mem) (Reads n at put)
+unfolding perform outside
+reads w r r′ mem parcels n at put o e h i g =
+    let k : registersOf r′ .ior ≡ registersOf r .ior = ap (λ (q : Registers). q .ior) (h .registers) ∙ i in
+    let l = rw (h .frame, k) at e in
+    rw (l, g, h .registers)
+
+-- memory was stored to
+pub writes : (w : Work) (r mem mem′ : List ℕ) (parcels n : ℕ) (at val : ℕ → ℕ) (o : Bool)
+    → w ≡ ranged (user (frameOf r)) (registersOf r .ior) parcels o → mem′ ≡ stores (dataField (frameOf r)) at val n mem
+    → o ≡ anyOutside (dataField (frameOf r)) at (length mem) n
+    → done w (registersOf r) (sharing mem′) ≡ perform (frameOf r) (registersOf r) parcels (sharing mem) (Writes n at val)
+unfolding perform outside
+writes w r mem mem′ parcels n at val o e h g = rw (e, h, g)

@@ -31,7 +31,17 @@ fn read_block(r: &mut [u64], mem: &[u64], first: usize, words: u64, x: u64, b: b
     requires { ⌜ Window (frameOf (now r)) first words (length (now mem)) ⌝ }
     ensures { λ outside. ⌜ Moved outside (now (r .entry)) (now (r .exit)) (now (mem .entry)) (now (mem .entry)) x ⌝ }
 {
-    operands::read(r, mem, first, words, place(b), access::jk(x), block(r, x), 1, b)
+    operands::read(
+        r,
+        mem,
+        first,
+        words,
+        place(b),
+        access::jk(x),
+        block(r, x),
+        1,
+        b,
+    )
 }
 
 // 035, 037: the same to memory.
@@ -40,7 +50,16 @@ fn store_block(r: &[u64], mem: &mut [u64], first: usize, words: u64, x: u64, b: 
     requires { ⌜ Window (frameOf (now r)) first words (length (now mem)) ⌝ }
     ensures { λ outside. ⌜ Moved outside (now (r .entry)) (now (r .entry)) (now (mem .entry)) (now (mem .exit)) x ⌝ }
 {
-    operands::store(r, mem, first, words, place(b), access::jk(x), block(r, x), 1)
+    operands::store(
+        r,
+        mem,
+        first,
+        words,
+        place(b),
+        access::jk(x),
+        block(r, x),
+        1,
+    )
 }
 
 // 034: B registers from memory.
@@ -108,5 +127,14 @@ pub fn store_v(r: &[u64], mem: &mut [u64], first: usize, words: u64, x: u64) -> 
 {
     let n = access::vl(r);
     let by = access::a_k(r, x);
-    operands::store(r, mem, first, words, access::V + access::j(x) * 64, 0, n, by)
+    operands::store(
+        r,
+        mem,
+        first,
+        words,
+        access::V + access::j(x) * 64,
+        0,
+        n,
+        by,
+    )
 }

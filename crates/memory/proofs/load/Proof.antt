@@ -1,7 +1,7 @@
 use Rattle.access.proofs.Windows.{code-inside, second, second-narrow}
 use Rattle.access.proofs.Leaf.{lost}
 use Rattle.memory.proofs.Fields.{reached, held}
-use Rattle.memory.proofs.Made.{loading, load-code, loaded}
+use Rattle.memory.proofs.Single.{loading, load-code, loaded}
 use borrow.Author.Needs.{needs}
 use Rattle.memory.proofs.load.Statement.{statement}
 use Rattle.memory.proofs.load.Tie as tie

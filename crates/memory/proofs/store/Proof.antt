@@ -1,7 +1,7 @@
 use Rattle.access.proofs.Windows.{code-inside, second, second-narrow}
 use Rattle.access.proofs.Leaf.{lost}
 use Rattle.memory.proofs.Fields.{reached, held}
-use Rattle.memory.proofs.Made.{storing, store-code, stored}
+use Rattle.memory.proofs.Single.{storing, store-code, stored}
 use borrow.Author.Needs.{needs}
 use Rattle.memory.proofs.store.Statement.{statement}
 use Rattle.memory.proofs.store.Tie as tie

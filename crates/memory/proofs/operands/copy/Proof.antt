@@ -1,4 +1,4 @@
-use Prim.Native.Nat.{_+_, _-_, _%_, _≤_, _<_}
+use Prim.Native.Nat.{ℕ, _+_, _-_, _%_, _≤_, _<_}
 use mathlib.Core.Path.{_≡_, refl, _∙_}
 use native.Mathlib.Omega.{arith}
 use lib.ListN.{length, getD}
@@ -10,7 +10,8 @@ use Rattle.memory.proofs.operands.copy.Statement.{statement}
 use Rattle.memory.proofs.operands.copy.Tie as tie
 
 abbrev Inv-loop : tie.InvT-loop
-Inv-loop to₀ first from at n narrow e₀ to e = (e ≤ n) × (e % 16 ≡ 0) × (length to ≡ length to₀) × (to ≡ fill first (λ i. cutTo narrow (getD from (at + i) 0)) e to₀)
+Inv-loop to₀ first from at n narrow e₀ to e =
+    (e ≤ n) × (e % 16 ≡ 0) × (length to ≡ length to₀) × (to ≡ fill first (λ i. cutTo narrow (getD from (at + i) 0)) e to₀)
 
 abbrev μ-loop : tie.MeasureT-loop
 μ-loop to₀ first from at n narrow e₀ to e = n - e
@@ -32,30 +33,37 @@ add-sixteen c =
 sixteen-requires : tie.Need-sixteen-requires Inv-loop μ-loop
 sixteen-requires c κs =
     let start = c .before .before .before .before .before in
-    let l : c .before .before .loop .e + 15 < start .args .n = omega (arith, start .pre .0) in omega (arith, start .pre .1 (c .before .before .loop .e + 15) l .1)
+    let l : c .before .before .loop .e + 15 < start .args .n = omega (arith, start .pre .0) in
+    omega (arith, start .pre .1 (c .before .before .loop .e + 15) l .1)
 
 put-sixteen-requires : tie.Need-put-sixteen-requires Inv-loop μ-loop
 put-sixteen-requires c κs =
     let loop = c .before .before .before .loop in
     let start = c .before .before .before .before .before .before in
-    let l : loop .e + 15 < start .args .n = omega (arith, start .pre .0) in omega (arith, start .pre .1 (loop .e + 15) l .0)
+    let l : loop .e + 15 < start .args .n = omega (arith, start .pre .0) in
+    omega (arith, start .pre .1 (loop .e + 15) l .0)
 
 add-e : tie.Need-add-e Inv-loop μ-loop
 add-e c =
     let loop = c .before .before .before .before .before .before .loop in
     let start = c .before .before .before .before .before .before .before .before .before in
-    let l : loop .e + 15 < start .args .n = omega (arith, start .pre .0) in omega (arith, start .pre .1 (loop .e + 15) l .1, start .good)
+    let l : loop .e + 15 < start .args .n = omega (arith, start .pre .0) in
+    omega (arith, start .pre .1 (loop .e + 15) l .1, start .good)
 
 loop-again : tie.Need-loop-again Inv-loop μ-loop
 loop-again c =
     let sixteen = c .before .before .before .sixteen in
     let loop = c .before .before .before .before .before .before .loop in
     let start = c .before .before .before .before .before .before .before .before .before in
-    (
+    let a = start .args in
+    let l = loop in
+    let f : ℕ → ℕ = λ i. cutTo (a .narrow) (getD (a .from .now) (a .at + i) 0) in
+    let g : (i : ℕ) → i < 16 → getD (sixteen .result) i 0 ≡ f (l .e + i)
+    = λ i t. let k : a .at + l .e + i ≡ a .at + (l .e + i) = omega arith in rw (← k) (sixteen .ensures i t) in (
       search needs,
       search needs,
       search needs,
-      c .before .before .put-sixteen .ensures ∙ rw (loop .inv .3) (fill-more (start .args .first) (λ i. cutTo (start .args .narrow) (getD (start .args .from .now) (start .args .at + i) 0)) (λ i. getD (sixteen .result) i 0) (loop .e) (start .args .to .now) 16 (λ i t. let k : start .args .at + loop .e + i ≡ start .args .at + (loop .e + i) = omega arith in rw (← k) (sixteen .ensures i t))),
+      c .before .before .put-sixteen .ensures ∙ rw (l .inv .3) (fill-more (a .first) f _ (l .e) (a .to .now) 16 g),
     )
 
 returns : tie.Need-returns Inv-loop μ-loop

@@ -14,7 +14,8 @@ returns c =
 
 returns-2 : tie.Need-returns-2
 unfolding straightOf
-returns-2 c = ⊎-elim (λ w. rw (w .0 .taken, w .1 .taken, ← c .before .word-at .ensures, w .3 .left)) (⊎-elim (λ w. rw (w .0 .taken, w .1 .left)) (λ w. simp (ne-eqb _ _ (w .left)))) (c .if1 .came)
+returns-2 c = ⊎-elim (λ w. rw (w .0 .taken, w .1 .taken, ← c .before .word-at .ensures, w .3 .left))
+    (⊎-elim (λ w. rw (w .0 .taken, w .1 .left)) (λ w. simp (ne-eqb _ _ (w .left)))) (c .if1 .came)
 
 pub straight-spec : {M : Type 1} → statement M
 straight-spec =
