@@ -84,12 +84,12 @@ abbrev pub resumed : ℕ → ℕ → ℕ → Last → State → Shared → Ended
 resumed budget n k l st sh = pick (isExchange l) (runOf (budget - k) (n + k) st sh) (ended (lastEnding l) (n + k) st sh)
 
 -- the turn took k steps
-pub record Resumes (budget n m : ℕ) (t : Turned) (run : Ended) : Type 0 where
+pub record Resumes (budget n m : ℕ) (t : Turned) (whole : Ended) : Type 0 where
   pub k : ℕ
   pub count : t .steps ≡ m + k
   pub within : k ≤ budget
   pub some : isExchange (t .last) ≡ true → 1 ≤ k
-  pub run : run ≡ resumed budget n k (t .last) (t .state) (t .shared)
+  pub run : whole ≡ resumed budget n k (t .last) (t .state) (t .shared)
 
 untold : false ≡ true → ⊥
 untold e = let z : _≡_ {A = ℕ} 0 1 = cc in omega arith
