@@ -10,7 +10,7 @@ use Rattle.machine.specs.declared.Work.the-variants.{PastOne, NotHeld}
 use Rattle.machine.specs.Word.{pick}
 use Rattle.machine.specs.Parcel.{iOf, jOf, kOf}
 use Rattle.machine.specs.State.{Put, user, sj, el, ToV}
-use Rattle.machine.specs.Act.{Instr, Does, act, masked, AndSV, AndVV, OrSV, OrVV, XorSV, XorVV, MergeSV, MergeVV, SumSV, SumVV, DifferenceSV, DifferenceVV}
+use Rattle.machine.specs.Act.{Instr, Does, act, AndSV, AndVV, OrSV, OrVV, XorSV, XorVV, SumSV, SumVV, DifferenceSV, DifferenceVV}
 use Rattle.machine.specs.Codes.{One, codeOf}
 use Rattle.machine.specs.Layout.{registersOf, frameOf}
 use Rattle.access.specs.Executed.{Executes, Alone, Puts}
@@ -39,14 +39,6 @@ module _ (r r′ : List ℕ) (x : ℕ) where
   with-vj Xor e h = λ p mem. puts XorVV _ _ _ _ mem p _ (refl, h) (rw e) refl
   with-vj Sum e h = λ p mem. puts SumVV _ _ _ _ mem p _ (refl, h) (rw e) refl
   with-vj Difference e h = λ p mem. puts DifferenceVV _ _ _ _ mem p _ (refl, h) (rw e) refl
-
-  -- Vi by VM of Sj or Vj, and Vk
-  pub merging : (scalar : Bool) → x / 512 ≡ pick scalar 0o146 0o147
-      → Puts r r′ (ToV (iOf x) (λ e. pick (masked (registersOf r .vm) e) (pick scalar (sj (registersOf r) (jOf x)) (el (registersOf r .v) (jOf x) e)) (el (registersOf r .v) (kOf x) e)))
-      → Alone PastOne r r′ x
-  unfolding codeOf act
-  merging true e h = λ p mem. puts MergeSV _ _ _ _ mem p _ (refl, h) (rw e) refl
-  merging false e h = λ p mem. puts MergeVV _ _ _ _ mem p _ (refl, h) (rw e) refl
 
 -- where the code is held
 pub holds : (n : Instr) (u : Put) (held : Bool) (r r′ mem : List ℕ) (p x : ℕ) → (held ≡ true) × Puts r r′ u → codeOf (user (frameOf r)) x ≡ One n → actAt r p x 0 1 n ≡ Does u
