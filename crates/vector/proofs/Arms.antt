@@ -1,11 +1,12 @@
 -- From what a vector instruction's function wrote to what the definitions say of its code. Assumes nothing.
-use Prim.Native.Nat.{ℕ, _+_, _/_, _≤_}
+use Prim.Native.Nat.{ℕ, _+_, _/_}
 use mathlib.Core.Path.{_≡_, refl}
-use mathlib.Core.Logic.{_⊎_, inl, inr}
-use mathlib.Core.Bool.{Bool, true, false, _&&_, _||_, and-eq-true-iff}
-use mathlib.Core.List.{List}
-use lib.Dec.{leb}
-use borrow.Author.Tests.{leb-true}
+use mathlib.Core.Logic.{_≢_}
+use mathlib.Core.Bool.{Bool, true, false, _||_}
+use mathlib.Core.List.{List, [], _∷_}
+use native.Mathlib.Omega.{arith}
+use lib.Dec.{eqb}
+use borrow.Author.Tests.{eqb-true, ne-eqb}
 use Rattle.machine.specs.declared.Work.the-variants.{PastOne, NotHeld}
 use Rattle.machine.specs.Word.{pick}
 use Rattle.machine.specs.Parcel.{iOf, jOf, kOf}
@@ -17,7 +18,7 @@ use Rattle.access.specs.Executed.{Executes, Alone, Puts}
 use Rattle.access.proofs.Leaf.{actAt, puts}
 use Rattle.vector.specs.declared.TwoWords.{TwoWords}
 use Rattle.vector.specs.declared.TwoWords.the-variants.{And, Or, Xor, Sum, Difference}
-use Rattle.vector.specs.Element.{twoOf, codeOfTwo}
+use Rattle.vector.specs.Element.{twoOf, codeOfTwo, among}
 
 module _ (r r′ : List ℕ) (x : ℕ) where
   -- Vi of Sj and Vk
@@ -45,13 +46,19 @@ pub holds : (n : Instr) (u : Put) (held : Bool) (r r′ mem : List ℕ) (p x : �
     → Executes (pick held PastOne NotHeld) r r′ mem mem p x
 holds n u held r r′ mem p x h e a = puts n u (pick held PastOne NotHeld) r r′ mem p x (rw (h .0), h .1) e a
 
--- a number in a range, and in one of two
-within : (a b n : ℕ) → (leb a n && leb n b) ≡ true → (a ≤ n) × (n ≤ b)
-within a b n e = let h = and-eq-true-iff (leb a n) (leb n b) .0 e in (leb-true a n (h .0), leb-true n b (h .1))
+-- n is none of a list, nested as a match's `.rest` is: the list has its keys from the last to the first
+abbrev NoneOf : List ℕ → ℕ → Type 0
+NoneOf [] n = Unit {0}
+NoneOf (k ∷ l) n = NoneOf l n × (n ≢ k)
 
-pub ranges : (a b c d n : ℕ) → (leb a n && leb n b || leb c n && leb n d) ≡ true → ((a ≤ n) × (n ≤ b)) ⊎ ((c ≤ n) × (n ≤ d))
-ranges a b c d n = go (leb a n && leb n b) refl
+none-of : (l : List ℕ) (n : ℕ) → NoneOf l n → among l n ≡ false
+none-of [] n h = refl
+none-of (k ∷ l) n h = rw (ne-eqb n k (h .1)) (none-of l n (h .0))
+
+-- so in the arm `_` it is the last
+pub last-of : (k : ℕ) (l : List ℕ) (n : ℕ) → among (k ∷ l) n ≡ true → NoneOf l n → n ≡ k
+last-of k l n e h = go (eqb n k) refl (rw (none-of l n h) at e)
   where
-    go : (t : Bool) → (leb a n && leb n b) ≡ t → (t || leb c n && leb n d) ≡ true → ((a ≤ n) × (n ≤ b)) ⊎ ((c ≤ n) × (n ≤ d))
-    go true e h = inl (within a b n e)
-    go false e h = inr (within c d n h)
+    go : (t : Bool) → eqb n k ≡ t → (t || false) ≡ true → n ≡ k
+    go true e g = eqb-true n k e
+    go false e g = let z : _≡_ {A = ℕ} 0 1 = cc in omega arith

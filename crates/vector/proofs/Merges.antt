@@ -5,7 +5,7 @@ use mathlib.Core.Bool.{Bool, true, false}
 use mathlib.Core.List.{List}
 use native.Mathlib.Nat.{mod-eq-of-lt, mul-assoc}
 use native.Mathlib.Omega.{arith}
-use lib.ListN.{getD, set}
+use lib.ListN.{length, getD, set}
 use lib.Dec.{eqb}
 use lib.Pow.{pow-lt, pow-add, shl-shr, shr-shr, field, mod-mod-pow}
 use lib.Bits.{and-zero-r, or-zero-r, and-mask}
@@ -19,7 +19,7 @@ use Rattle.machine.specs.Layout.{registersOf}
 use Rattle.access.specs.Executed.{Alone, Puts}
 use Rattle.access.proofs.Leaf.{puts}
 use Rattle.word.proofs.Laws.{product-mod}
-use Rattle.vector.specs.Element.{twoMasks, leftAt}
+use Rattle.vector.specs.Element.{twoMasks, leftAt, mergedTwo}
 use Rattle.vector.proofs.Loops.{Doing, reads, goes}
 
 -- by a mask of all ones, or of none
@@ -74,25 +74,51 @@ unfolding codeOf act
 merging true r r′ x e h = λ p mem. puts MergeSV _ _ _ _ mem p _ (refl, h) (rw e) refl
 merging false r r′ x e h = λ p mem. puts MergeVV _ _ _ _ mem p _ (refl, h) (rw e) refl
 
--- two elements more
-pub goes-two : (scalar : Bool) {x n e : ℕ} {r₀ r : List ℕ} (bits s left right to : ℕ) → Doing x n (mergedOf scalar (registersOf r₀) x) r₀ r e
-    → bits ≡ registersOf r₀ .vm * 2 ^ e % 2 ^ 64 → s ≡ sj (registersOf r₀) (jOf x)
-    → (e + 2 ≤ n) × (n ≤ 64) × (left ≡ 160 + jOf x * 64 + e) × (right ≡ 160 + kOf x * 64 + e) × (to ≡ 160 + iOf x * 64 + e)
-    → Doing x n (mergedOf scalar (registersOf r₀) x) r₀
-        (set (set r to (pick (masked bits 0) (leftAt r scalar s left) (getD r right 0))) (to + 1) (pick (masked bits 1) (leftAt r scalar s (left + 1)) (getD r (right + 1) 0)))
-        (e + 2)
-goes-two scalar {x} {n} {e} {r₀} {r} bits s left right to d b q h =
-    let two : e + 2 ≡ e + 1 + 1 = omega arith in
-    rw two
-    (goes (goes d to _ (omega arith)
-    (cc (
-      masked-shift (registersOf r₀ .vm) e 0 e (omega arith) (omega arith),
-      reads d (jOf x) e left (omega arith),
-      reads d (kOf x) e right (omega arith),
-    )))
-    (to + 1) _ (omega arith)
-    (cc (
-      masked-shift (registersOf r₀ .vm) e 1 (e + 1) (omega arith) (omega arith),
-      reads d (jOf x) (e + 1) (left + 1) (omega arith),
-      reads d (kOf x) (e + 1) (right + 1) (omega arith),
-    )))
+module _ (scalar : Bool) (x n s : ℕ) (r₀ : List ℕ) (same : s ≡ sj (registersOf r₀) (jOf x)) (short : n ≤ 64) where
+  -- a loop that merges n elements of Vi
+  abbrev Merging : List ℕ → ℕ → Type 0
+  Merging r e = Doing x n (mergedOf scalar (registersOf r₀) x) r₀ r e
+
+  -- the places of element e of Vj, Vk and Vi
+  abbrev Places : ℕ → ℕ → ℕ → ℕ → Type 0
+  Places e left right to = (left ≡ 160 + jOf x * 64 + e) × (right ≡ 160 + kOf x * 64 + e) × (to ≡ 160 + iOf x * 64 + e)
+
+  -- one element more
+  pub goes-one : (e left right to l y : ℕ) (r : List ℕ) → Merging r e → e < n → Places e left right to
+      → l ≡ leftAt r scalar s left → y ≡ pick (masked (registersOf r₀ .vm) e) l (getD r right 0) → Merging (set r to y) (e + 1)
+  goes-one e left right to l y r d h g p q =
+      goes d to y (omega arith) (cc (reads d (jOf x) e left (omega arith), reads d (kOf x) e right (omega arith)))
+
+  -- two elements more
+  goes-two : (e bits left right to : ℕ) (r : List ℕ) → Merging r e → e + 2 ≤ n → bits ≡ registersOf r₀ .vm * 2 ^ e % 2 ^ 64 → Places e left right to
+      → Merging (mergedTwo r bits scalar s left right to) (e + 2)
+  goes-two e bits left right to r d l b h =
+      let two : e + 2 ≡ e + 1 + 1 = omega arith in
+      rw two
+      (goes (goes d to _ (omega arith)
+      (cc (
+        masked-shift (registersOf r₀ .vm) e 0 e (omega arith) (omega arith),
+        reads d (jOf x) e left (omega arith),
+        reads d (kOf x) e right (omega arith),
+      )))
+      (to + 1) _ (omega arith)
+      (cc (
+        masked-shift (registersOf r₀ .vm) e 1 (e + 1) (omega arith) (omega arith),
+        reads d (jOf x) (e + 1) (left + 1) (omega arith),
+        reads d (kOf x) (e + 1) (right + 1) (omega arith),
+      )))
+
+  -- and two more
+  pub goes-four : (e bits left right to : ℕ) (r r₁ r₂ : List ℕ) → Merging r e → e + 4 ≤ n → bits ≡ registersOf r₀ .vm * 2 ^ e % 2 ^ 64 → Places e left right to
+      → r₁ ≡ mergedTwo r bits scalar s left right to → r₂ ≡ mergedTwo r₁ (bits * 2 ^ 2 % 2 ^ 64) scalar s (left + 2) (right + 2) (to + 2) → Merging r₂ (e + 4)
+  goes-four e bits left right to r r₁ r₂ d l b h p q =
+      let two : e + 4 ≡ e + 2 + 2 = omega arith in
+      let d₁ : Merging r₁ (e + 2) = rw p (goes-two e bits left right to r d (omega arith) b h) in
+      rw (two, q) (goes-two (e + 2) (bits * 2 ^ 2 % 2 ^ 64) (left + 2) (right + 2) (to + 2) r₁ d₁ (omega arith) (rw b (shift-more (registersOf r₀ .vm) e 2 (omega arith))) (omega arith))
+
+-- what a loop that began at element e₀ with r₀ makes of a merge that was under way, from whatever w
+pub record GoesOn (scalar : Bool) (x n s vm : ℕ) (r₀ : List ℕ) (e₀ : ℕ) (r : List ℕ) (e : ℕ) : Type 0 where
+  pub within : e ≤ n
+  pub long : length r ≡ 672
+  pub on : (w : List ℕ) → s ≡ sj (registersOf w) (jOf x) → vm ≡ registersOf w .vm → Doing x n (mergedOf scalar (registersOf w) x) w r₀ e₀
+      → Doing x n (mergedOf scalar (registersOf w) x) w r e

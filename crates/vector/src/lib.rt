@@ -4,7 +4,7 @@ ghost use mathlib.Core.Path.{_≡_};
 ghost use mathlib.Core.Logic.{_⊎_};
 ghost use mathlib.Core.Bool.{true};
 ghost use Prim.Native.Nat.{_+_, _-_, _*_, _/_, _^_, _<_, _≤_};
-ghost use lib.ListN.{length, getD, set};
+ghost use lib.ListN.{length};
 ghost use Rattle.machine.specs.declared.Work.the-variants.{PastOne, NotHeld};
 ghost use Rattle.machine.specs.Word.{pick, shiftLeftPair, shiftRightPair};
 ghost use Rattle.machine.specs.Parcel.{iOf, jOf, kOf};
@@ -12,7 +12,7 @@ ghost use Rattle.machine.specs.State.{el, ToV, ToVM};
 ghost use Rattle.machine.specs.Act.{masked, marksOf, after, before};
 ghost use Rattle.machine.specs.Layout.{registersOf};
 ghost use Rattle.access.specs.Executed.{Alone, Puts};
-ghost use Rattle.vector.specs.Element.{twoOf, oneOf, testOf, codeOfTwo, plain, other, Vector, twoMasks, leftAt};
+ghost use Rattle.vector.specs.Element.{twoOf, oneOf, testOf, codeOfTwo, plain, other, Vector, twoMasks, leftAt, mergedTwo};
 use access::V;
 use access::VM;
 
@@ -206,7 +206,7 @@ fn left_of(r: &[u64], scalar: bool, s: u64, at: usize) -> u64
 fn two(r: &mut [u64], masks: &[u64; 8], bits: u64, scalar: bool, s: u64, left: usize, right: usize, to: usize)
     requires { ⌜ (length (now r) ≡ 672) × (now masks ≡ twoMasks) ⌝ }
     requires { ⌜ (left + 2 ≤ 672) × (right + 2 ≤ 672) × (to + 2 ≤ 672) ⌝ }
-    ensures { λ _. ⌜ now (r .exit) ≡ set (set (now (r .entry)) to (pick (masked bits 0) (leftAt (now (r .entry)) scalar s left) (getD (now (r .entry)) right 0))) (to + 1) (pick (masked bits 1) (leftAt (now (r .entry)) scalar s (left + 1)) (getD (now (r .entry)) (right + 1) 0)) ⌝ }
+    ensures { λ _. ⌜ now (r .exit) ≡ mergedTwo (now (r .entry)) bits scalar s left right to ⌝ }
 {
     let at = (bits >> 62) as usize * 2;
     let y = word::merged(left_of(r, scalar, s, left), r[right], masks[at]);
