@@ -12,7 +12,7 @@ use Rattle.machine.specs.declared.Answer.{Answer}
 use Rattle.machine.specs.declared.Answer.the-variants.{Stepped, Exchanged, NotHeld, MonitorFetch}
 use Rattle.machine.specs.declared.Ending.the-variants as ending
 use Rattle.machine.specs.declared.Last.{Last}
-use Rattle.machine.specs.declared.Last.the-variants.{Nothing, Was}
+use Rattle.machine.specs.declared.Last.the-variants.{Nothing, Was, Refused}
 use Rattle.machine.specs.Word.{pick, bit}
 use Rattle.machine.specs.State.{Registers, Frame, State, Shared, sharing}
 use Rattle.machine.specs.Work.{workOf}
@@ -136,39 +136,63 @@ resumes (suc budget) j m n st sh =
     go (NotHeld p) h = record { k = 0; count = refl; within = omega arith; some = λ z. absurd (untold z); run = refl }
     go (MonitorFetch p) h = record { k = 0; count = refl; within = omega arith; some = λ z. absurd (untold z); run = refl }
 
--- how the loop over turns stands
-pub record Running (r₀ mem₀ r mem : List ℕ) (budget steps : ℕ) (l : Last) : Type 0 where
+-- what is left of a run after `steps` of its steps
+abbrev pub later : ℕ → ℕ → Last → List ℕ → List ℕ → Ended
+later budget steps l r mem =
+    pick (isExchange l) (runOf (budget - steps) steps (stateOf r) (sharing mem)) (ended (lastEnding l) steps (stateOf r) (sharing mem))
+
+-- how the loop over turns stands: what is left from here is the whole
+pub record Running (whole : Ended) (len : ℕ) (r mem : List ℕ) (budget steps : ℕ) (l : Last) : Type 0 where
   pub fitting : Fitting r (length mem)
   pub p : getD r 0 0 < 2 ^ 24
-  pub long : length mem ≡ length mem₀
+  pub long : length mem ≡ len
   pub within : steps ≤ budget
-  pub rest : runOf budget 0 (stateOf r₀) (sharing mem₀) ≡ pick (isExchange l) (runOf (budget - steps) steps (stateOf r) (sharing mem)) (ended (lastEnding l) steps (stateOf r) (sharing mem))
+  pub rest : whole ≡ later budget steps l r mem
 
 -- twice the steps left, and one more while the last answer is an exchange
 abbrev pub togo : ℕ → ℕ → Last → ℕ
 togo budget steps l = (budget - steps) * 2 + bit (isExchange l)
 
 -- a turn of what is left
-module _ (r₀ mem₀ r mem r′ mem′ : List ℕ) (left steps n : ℕ) (l : Last) (f : Fitting r (length mem)) (p : getD r 0 0 < 2 ^ 24) (long : length r′ ≡ 672)
-    (t : turned l n (stateOf r′) (sharing mem′) ≡ turnOf left Nothing 0 (stateOf r) (sharing mem)) where
-  turned-run : Resumes left steps 0 (turned l n (stateOf r′) (sharing mem′)) (runOf left steps (stateOf r) (sharing mem))
-  turned-run = rw t (resumes left 0 0 steps (stateOf r) (sharing mem))
-
-  pub runs-on : (budget : ℕ) → left ≡ budget - steps → steps ≤ budget → length mem ≡ length mem₀
-      → runOf budget 0 (stateOf r₀) (sharing mem₀) ≡ runOf left steps (stateOf r) (sharing mem)
-      → Running r₀ mem₀ r′ mem′ budget (steps + n) l × (isExchange l ≡ true → 1 ≤ n)
-  runs-on budget e h m rest =
+module _ (r r′ mem mem′ : List ℕ) (budget left steps n : ℕ) (l : Last) (f : Fitting r (length mem)) (p : getD r 0 0 < 2 ^ 24) (long : length r′ ≡ 672)
+    (t : turned l n (stateOf r′) (sharing mem′) ≡ turnOf left Nothing 0 (stateOf r) (sharing mem)) (e : left ≡ budget - steps) (h : steps ≤ budget) where
+  pub runs-on : Running (runOf left steps (stateOf r) (sharing mem)) (length mem) r′ mem′ budget (steps + n) l × (isExchange l ≡ true → 1 ≤ n)
+  runs-on =
       let k = turn-fitting r r′ mem mem′ left l n f p long t in
-      let u = turned-run in
+      let u : Resumes left steps 0 (turned l n (stateOf r′) (sharing mem′)) (runOf left steps (stateOf r) (sharing mem)) = rw t (resumes left 0 0 steps (stateOf r) (sharing mem)) in
       let c : n ≡ u .k = u .count ∙ omega arith in
       let a : left - u .k ≡ budget - (steps + n) = omega (arith, c, e) in
       let b : steps + u .k ≡ steps + n = omega (arith, c) in (
         record {
           fitting = k .0;
           p = k .1;
-          long = k .2 ∙ m;
+          long = k .2;
           within = omega (arith, u .within, c, e, h);
-          rest = rest ∙ u .run ∙ rw (a, b);
+          rest = u .run ∙ rw (a, b);
         },
         λ z. omega (arith, u .some z, c),
       )
+
+  -- the loop goes on: fewer steps are left, or none are to be taken
+  pub again : (whole : Ended) (len : ℕ) (l₀ : Last) → isExchange l₀ ≡ true → whole ≡ later budget steps l₀ r mem → length mem ≡ len
+      → Running whole len r′ mem′ budget (steps + n) l × (togo budget (steps + n) l < togo budget steps l₀)
+  again whole len l₀ x w m =
+      let u = runs-on in
+      let g : whole ≡ runOf left steps (stateOf r) (sharing mem) = w ∙ rw (x, e) in (
+        record { fitting = u .0 .fitting; p = u .0 .p; long = u .0 .long ∙ m; within = u .0 .within; rest = g ∙ u .0 .rest },
+        rw x (less (isExchange l) refl),
+      )
+    where
+      less : (b : Bool) → isExchange l ≡ b → (budget - (steps + n)) * 2 + bit b < (budget - steps) * 2 + 1
+      less true z = omega (arith, runs-on .1 z, runs-on .0 .within)
+      less false z = omega (arith, runs-on .0 .within)
+
+-- the loop is left: the budget is spent, or the last answer is no exchange
+pub over : (budget steps : ℕ) (l : Last) (r mem : List ℕ) → (isExchange l ≡ true → budget - steps ≡ 0) → later budget steps l r mem ≡ ended (lastEnding l) steps (stateOf r) (sharing mem)
+unfolding runOf
+over budget steps Nothing r mem h = refl
+over budget steps (Was Stepped) r mem h = refl
+over budget steps (Was (Exchanged flags)) r mem h = rw (h refl)
+over budget steps (Was (NotHeld p)) r mem h = refl
+over budget steps (Was (MonitorFetch p)) r mem h = refl
+over budget steps (Refused n) r mem h = refl

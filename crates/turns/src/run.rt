@@ -6,7 +6,7 @@ ghost use lib.ListN.{length, getD};
 ghost use Rattle.machine.specs.State.{sharing};
 ghost use Rattle.machine.specs.Run.{endingOf, ended, runOf};
 ghost use Rattle.machine.specs.Layout.{stateOf};
-ghost use Rattle.turns.specs.Turn.{Fitting, isExchange, lastEnding};
+ghost use Rattle.turns.specs.Turn.{Fitting, exchanges, isExchange, lastEnding};
 use machine::Answer;
 use machine::Ending;
 use machine::Last;
@@ -17,17 +17,27 @@ pub struct Ran {
     pub steps: u64,
 }
 
-// Whether a turn ended with an exchange, after which a run goes on.
+// Whether an answer is an exchange, after which a run goes on.
+fn is_exchange(answer: Answer) -> bool
+    ensures { λ t. ⌜ t ≡ exchanges answer ⌝ }
+{
+    match answer {
+        Answer::Stepped => false,
+        Answer::Exchanged(_) => true,
+        Answer::NotHeld(_) => false,
+        Answer::MonitorFetch(_) => false,
+    }
+}
+
+// The same of a turn's last answer.
 fn exchanged(last: Last) -> bool
     ensures { λ t. ⌜ t ≡ isExchange last ⌝ }
 {
-    let Last::Was(answer) = last else {
-        return false;
-    };
-    let Answer::Exchanged(_) = answer else {
-        return false;
-    };
-    true
+    match last {
+        Last::Nothing => false,
+        Last::Was(answer) => is_exchange(answer),
+        Last::Refused(_) => false,
+    }
 }
 
 // The ending that an answer makes.
