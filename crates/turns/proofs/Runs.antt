@@ -91,7 +91,7 @@ pub record Resumes (budget n m : ℕ) (t : Turned) (whole : Ended) : Type 0 wher
   pub some : isExchange (t .last) ≡ true → 1 ≤ k
   pub run : whole ≡ resumed budget n k (t .last) (t .state) (t .shared)
 
-untold : false ≡ true → ⊥
+pub untold : false ≡ true → ⊥
 untold e = let z : _≡_ {A = ℕ} 0 1 = cc in omega arith
 
 resumes : (budget j m n : ℕ) (st : State) (sh : Shared) → Resumes budget n m (turnOf budget (lastAfter j) m st sh) (runOf budget n st sh)
