@@ -18,7 +18,10 @@ loop-holds : tie.Need-loop-holds Inv-loop μ-loop
 loop-holds c = (search needs, refl, refl)
 
 loop-again : tie.Need-loop-again Inv-loop μ-loop
-loop-again c = (search needs, simp length-set (c .before .loop .inv .1), copied _ _ _ _ (omega (arith, ap length (c .before .before .low-words .ensures))) (omega arith) (c .before .loop .inv .2))
+loop-again c =
+    let loop = c .before .loop in
+    let long = ap length (c .before .before .low-words .ensures) in
+    (search needs, simp length-set (loop .inv .1), copied _ _ _ _ (omega arith) (omega arith) (loop .inv .2))
 
 returns : tie.Need-returns Inv-loop μ-loop
 returns c =

@@ -10,8 +10,8 @@ use Rattle.exchange.proofs.saved_words.Tie as tie
 returns : tie.Need-returns
 unfolding frameOf registersOf
 returns c =
-    let start = c .before .before .before .before .before .before .before .before .before .before .before .before .before .before .before .before .before .before .before .before .before .before .before .before .before .before .before .before .before .before in
-    let w = start .args .r .now in
+    let half = c .before .before .before .before .before .before .before .before .before .before .before .before .before .before .before in
+    let w = half .before .before .before .before .before .before .before .before .before .before .before .before .before .before .before .args .r .now in
     ap₂ _∷_ (omega (arith, a-at w 0 (omega arith)))
     (ap₂ _∷_ (omega (arith, a-at w 1 (omega arith)))
     (ap₂ _∷_ (omega (arith, a-at w 2 (omega arith)))
