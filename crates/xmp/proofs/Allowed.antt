@@ -4,7 +4,8 @@ use mathlib.Core.Path.{_≡_, refl, sym, _∙_, ap}
 use mathlib.Core.Bool.{Bool, true, false, not, _&&_, and-eq-true-iff}
 use mathlib.Core.List.{List, [], _∷_}
 use native.Mathlib.Omega.{arith}
-use lib.ListN.{length, getD, set, replicate}
+use lib.ListN.{length, getD, set, replicate, drop, length-drop}
+use lib.Seq.{length-take-le}
 use lib.Dec.{eqb, ltb, leb}
 use borrow.Author.Tests.{ltb-false, leb-true, eqb-true}
 use Rattle.machine.specs.declared.Answer.{Answer}
@@ -20,9 +21,14 @@ use Rattle.machine.specs.Run.{zeros, blankRegisters, blankFrame, startOf, Turne
 use Rattle.machine.specs.Refusal.{Check, check, first, memoryFits, stateFits, below, startRefusal, stepRefusal, runRefusal, pairRefusal}
 use Rattle.machine.specs.Call.{Replied, replied}
 use Rattle.machine.specs.Layout.{part, registersOf, frameOf, stateOf, firstOf, secondOf}
+use Rattle.access.proofs.Places.{part-at}
 use Rattle.access.proofs.Fits.{Fit, fit}
 use Rattle.turns.specs.Turn.{Fitting}
 use Rattle.xmp.specs.Reply.{replyOf}
+
+-- two ensures of one call: what it gives, and the numbers of its answer
+pub told : {A B : Type 0} (f : A → B) (a b : A) → a ≡ b → (a ≡ b) × (f a ≡ f b)
+told f a b e = (e, ap f e)
 
 -- none of the tests of a call that is not refused holds
 passed : (n : ℕ) (b : Bool) (l : List Check) → (n ≡ 0 → ⊥) → first (check n b ∷ l) ≡ 0 → (b ≡ false) × (first l ≡ 0)
@@ -49,39 +55,44 @@ fitting r len long m n e =
     (record { long = long; frame = f .frame; control = f .control; processor = n; least = k .0; most = k .1 }, f .p)
 
 module _ (r : List ℕ) (len : ℕ) (long : length r ≡ 672) where
-  pub step-allowed : stepRefusal len (stateOf r) ≡ 0 → Fitting r len × (getD r 0 0 < 2 ^ 24)
+  pub step-allowed : stepRefusal len (stateOf r) ≡ 0 → Fitting r len × ((getD r 0 0 < 2 ^ 24) × (1 ≤ 1000000))
   unfolding stepRefusal
   step-allowed e =
       let a = passed 1 _ _ (λ z. omega arith) e in
       let b = passed 4 _ _ (λ z. omega arith) (a .1) in
       let c = passed 7 _ _ (λ z. omega arith) (b .1) in
-      fitting r len long (held _ (a .0)) (omega (arith, ltb-false 1 (stateOf r .frame .processor) (b .0))) (held _ (c .0))
+      let k = fitting r len long (held _ (a .0)) (omega (arith, ltb-false 1 (stateOf r .frame .processor) (b .0))) (held _ (c .0)) in
+      (k .0, (k .1, omega arith))
 
-  pub run-allowed : (budget : ℕ) → runRefusal len (stateOf r) budget ≡ 0 → (Fitting r len × (getD r 0 0 < 2 ^ 24)) × (budget ≤ 1000000)
+  pub run-allowed : (budget : ℕ) → runRefusal len (stateOf r) budget ≡ 0 → Fitting r len × ((getD r 0 0 < 2 ^ 24) × (budget ≤ 1000000))
   unfolding runRefusal
   run-allowed budget e =
       let a = passed 1 _ _ (λ z. omega arith) e in
       let d = passed 3 _ _ (λ z. omega arith) (a .1) in
       let b = passed 4 _ _ (λ z. omega arith) (d .1) in
-      let c = passed 7 _ _ (λ z. omega arith) (b .1) in (
-        fitting r len long (held _ (a .0)) (omega (arith, ltb-false 1 (stateOf r .frame .processor) (b .0))) (held _ (c .0)),
-        omega (arith, ltb-false 1000000 budget (d .0)),
-      )
+      let c = passed 7 _ _ (λ z. omega arith) (b .1) in
+      let k = fitting r len long (held _ (a .0)) (omega (arith, ltb-false 1 (stateOf r .frame .processor) (b .0))) (held _ (c .0)) in
+      (k .0, (k .1, omega (arith, ltb-false 1000000 budget (d .0))))
 
-pub start-allowed : (len package n : ℕ) → startRefusal len package n ≡ 0 → (4096 ≤ len) × (package < 256) × (n < 2)
+pub start-allowed : (len x n : ℕ) → startRefusal len x n ≡ 0 → (4096 ≤ len) × (x < 256) × (n < 2)
 unfolding startRefusal
-start-allowed len package n e =
+start-allowed len x n e =
     let a = passed 1 _ _ (λ z. omega arith) e in
     let b = passed 2 _ _ (λ z. omega arith) (a .1) in
     let c = passed 4 _ _ (λ z. omega arith) (b .1) in
-    (memory-fits len (held _ (a .0)) .0, omega (arith, ltb-false 255 package (b .0)), omega (arith, ltb-false 1 n (c .0)))
+    (memory-fits len (held _ (a .0)) .0, omega (arith, ltb-false 255 x (b .0)), omega (arith, ltb-false 1 n (c .0)))
 
-pub pair-allowed : (pair : List ℕ) (len : ℕ) (schedule : List ℕ) → length (part 0 672 pair) ≡ 672 → length (part 672 672 pair) ≡ 672
+-- a processor's words in a pair's are 672
+part-long : (pair : List ℕ) (at : ℕ) → length pair ≡ 1344 → at ≤ 672 → length (part at 672 pair) ≡ 672
+unfolding part
+part-long pair at long h = length-take-le 672 (drop at pair) (omega (arith, length-drop at pair, long, h))
+
+pub pair-allowed : (pair : List ℕ) (len : ℕ) (schedule : List ℕ) → length pair ≡ 1344
     → pairRefusal len (firstOf pair) (secondOf pair) schedule ≡ 0
-    → ((Fitting (part 0 672 pair) len × (getD (part 0 672 pair) 0 0 < 2 ^ 24)) × (Fitting (part 672 672 pair) len × (getD (part 672 672 pair) 0 0 < 2 ^ 24)))
-    × (length schedule ≤ 65536)
+    → ((length pair ≡ 1344) × (length schedule ≤ 65536))
+    × ((Fitting (part 0 672 pair) len × Fitting (part 672 672 pair) len) × ((getD pair 0 0 < 2 ^ 24) × (getD pair 672 0 < 2 ^ 24)))
 unfolding pairRefusal
-pair-allowed pair len schedule l l′ e =
+pair-allowed pair len schedule long e =
     let x = firstOf pair in
     let y = secondOf pair in
     let a = passed 1 _ _ (λ z. omega arith) e in
@@ -91,10 +102,12 @@ pair-allowed pair len schedule l l′ e =
     let f = passed 7 _ _ (λ z. omega arith) (d .1) in
     let n = and-eq-true-iff (eqb (x .frame .processor) 0) (eqb (y .frame .processor) 1) .0 (held _ (b .0)) in
     let s = and-eq-true-iff (stateFits x) (stateFits y) .0 (held _ (f .0)) in
-    let m = held _ (a .0) in (
-      (fitting (part 0 672 pair) len l m (omega (arith, eqb-true (x .frame .processor) 0 (n .0))) (s .0),
-      fitting (part 672 672 pair) len l′ m (omega (arith, eqb-true (y .frame .processor) 1 (n .1))) (s .1)),
-      omega (arith, ltb-false 65536 (length schedule) (c .0)),
+    let m = held _ (a .0) in
+    let one = fitting (part 0 672 pair) len (part-long pair 0 long (omega arith)) m (omega (arith, eqb-true (x .frame .processor) 0 (n .0))) (s .0) in
+    let two = fitting (part 672 672 pair) len (part-long pair 672 long (omega arith)) m (omega (arith, eqb-true (y .frame .processor) 1 (n .1))) (s .1) in
+    (
+      (long, omega (arith, ltb-false 65536 (length schedule) (c .0))),
+      ((one .0, two .0), (rw (← part-at 0 672 pair 0 (omega arith)) (one .1), rw (← part-at 672 672 pair 0 (omega arith)) (two .1))),
     )
 
 -- a turn of one step is the step
@@ -114,6 +127,6 @@ pub stepped : (l : Last) (n : ℕ) (st st′ : State) (sh sh′ : Shared) → tu
 stepped l n st st′ sh sh′ e = ap (λ (t : Turned). replied (replyOf (t .last)) (t .state) (t .shared)) (e ∙ turn-one st sh)
 
 -- a processor's words all zero but its number load as a start does
-pub zeroed : (mem : List ℕ) (package n : ℕ) (w : List ℕ) → w ≡ set (replicate 672 0) 15 n → loaded mem package (registersOf w) (frameOf w) ≡ startOf mem package n
+pub zeroed : (mem : List ℕ) (x n : ℕ) (w : List ℕ) → w ≡ set (replicate 672 0) 15 n → loaded mem x (registersOf w) (frameOf w) ≡ startOf mem x n
 unfolding loaded startOf registersOf frameOf part zeros
-zeroed mem package n w e = rw e
+zeroed mem x n w e = rw e

@@ -16,7 +16,7 @@ use turns::run::Ran;
 
 // Starts a processor from a package: it only loads, B, T, V and VM being zero. The result is the number of its refusal, 0 for none.
 pub fn start(r: &mut [u64; 672], mem: &[u64], package: u64, processor: u64) -> u64
-    ensures { λ n. ⌜ started n (stateOf (now (r .exit))) ≡ startCall (stateOf (now (r .entry))) (now (mem .entry)) package processor ⌝ }
+    ensures { λ n. ⌜ started n (stateOf (now (r .exit))) ≡ startCall (stateOf (now (r .entry))) (now (mem .entry)) «package» processor ⌝ }
 {
     let no = refusal::of_start(mem.len(), package, processor);
     if no != 0 {
