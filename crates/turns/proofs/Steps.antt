@@ -4,7 +4,7 @@ use mathlib.Core.Path.{_≡_, refl, sym, _∙_, ap}
 use mathlib.Core.Bool.{Bool, true, false}
 use mathlib.Core.List.{List}
 use native.Mathlib.Omega.{arith}
-use lib.ListN.{length, getD, set}
+use lib.ListN.{length, set}
 use lib.Seq.{getD-set-same}
 use lib.Dec.{eqb}
 use borrow.Author.Tests.{ne-eqb, eq-eqb}
@@ -21,13 +21,13 @@ use Rattle.machine.specs.Parcel.{onward}
 use Rattle.machine.specs.State.{State, Registers, Frame, Shared, sharing, addr, user}
 use Rattle.machine.specs.Work.{Done, done, workOf}
 use Rattle.machine.specs.Step.{Out, out, inUserMode, exchange, finish, finishOf, stepOf, goesOn, counted}
-use Rattle.machine.specs.Run.{Turned, turned, turnOf}
+use Rattle.machine.specs.Run.{turned, turnOf}
 use Rattle.machine.specs.Layout.{registersOf, frameOf, stateOf}
 use Rattle.access.proofs.Places.{p-puts}
 use Rattle.dispatch.specs.Table.{Ready, Works}
 use Rattle.laws.proofs.Laws.{Narrow, Idle, work-p, work-ok, work-length, work-idle}
 use Rattle.turns.specs.declared.Moved.the-variants.{At, Ends}
-use Rattle.turns.specs.Turn.{stateAt, movedTo, lastAfter, turnedBy, burstEnd, Bursts, Fitting}
+use Rattle.turns.specs.Turn.{stateAt, movedTo, lastAfter, turnedBy, Bursts, Fitting}
 
 distinct : {A : Type 0} → _≡_ {A = ℕ} 0 1 → A
 distinct e = absurd (omega arith)
@@ -73,7 +73,7 @@ module _ (w : Work) (r r′ mem mem′ : List ℕ) (p : ParcelAddr) (did : Works
   idle-same : Idle w → registersOf r ≡ registersOf r′
   idle-same i =
       let e : workOf (frameOf r) (registersOf r) (p .0) (sharing mem) ≡ done w (registersOf r) (sharing mem)
-            = work-idle (frameOf r) (registersOf r) (p .0) (sharing mem) (rw (← did .done)) i in
+      = work-idle (frameOf r) (registersOf r) (p .0) (sharing mem) (rw (← did .done)) i in
       ap (λ (d : Done). d .registers) (sym e ∙ sym (did .done))
 
   -- a step that does more than step, as its end finds it
@@ -98,6 +98,22 @@ module _ (w : Work) (r r′ mem mem′ : List ℕ) (p : ParcelAddr) (did : Works
         },
         work-p (frameOf r) (registersOf r) (p .0) (sharing mem) {w = w} (rw (← did .done)),
       )
+
+-- where P goes is an address
+pub narrow-at : (w : Work) (p q : ParcelAddr) → movedTo (p .0) w ≡ At q → Narrow w → q .0 < 2 ^ 24
+narrow-at work.PastOne p q e h = let z : addr (onward (p .0) 1) ≡ q = cc in rw (← z) (omega arith)
+narrow-at work.PastTwo p q e h = let z : addr (onward (p .0) 2) ≡ q = cc in rw (← z) (omega arith)
+narrow-at (work.To p′) p q e h = let z : p′ ≡ q = cc in rw (← z) h
+narrow-at work.NormalExit p q e h = distinct (cc)
+narrow-at work.ErrorExit p q e h = distinct (cc)
+narrow-at (work.OperandRange n) p q e h = distinct (cc)
+narrow-at work.ProgramRange p q e h = distinct (cc)
+narrow-at work.NotHeld p q e h = distinct (cc)
+narrow-at work.MonitorFetch p q e h = distinct (cc)
+
+-- words that are ready fit
+pub fits : (r : List ℕ) (f : Reach) (len : ℕ) → Ready r f len → 4096 ≤ len → Fitting r len
+fits r f len k l = record { long = k .long; frame = k .frame; control = k .control; processor = k .processor; least = l; most = k .reaches .size }
 
 -- one step of a turn with budget left
 module _ (left : ℕ) (l : Last) (n : ℕ) (st : State) (sh : Shared) (some : left ≡ 0 → ⊥) where
@@ -149,17 +165,6 @@ module _ (r₀ mem₀ r mem r′ mem′ : List ℕ) (f : Reach) (from p : Parcel
             ∙ sym (turn-on left (lastAfter (budget - left)) (budget - left) (stateAt p r) (sharing mem) some (stateAt q r′) (sharing mem′) (steps-on w r r′ mem mem′ p did q e))
             ∙ g .rest;
       }
-    where
-      narrow-at : (w : Work) (p q : ParcelAddr) → movedTo (p .0) w ≡ At q → Narrow w → q .0 < 2 ^ 24
-      narrow-at work.PastOne p q e h = let z : addr (onward (p .0) 1) ≡ q = cc in rw (← z) (omega arith)
-      narrow-at work.PastTwo p q e h = let z : addr (onward (p .0) 2) ≡ q = cc in rw (← z) (omega arith)
-      narrow-at (work.To p′) p q e h = let z : p′ ≡ q = cc in rw (← z) h
-      narrow-at work.NormalExit p q e h = distinct (cc)
-      narrow-at work.ErrorExit p q e h = distinct (cc)
-      narrow-at (work.OperandRange n) p q e h = distinct (cc)
-      narrow-at work.ProgramRange p q e h = distinct (cc)
-      narrow-at work.NotHeld p q e h = distinct (cc)
-      narrow-at work.MonitorFetch p q e h = distinct (cc)
 
   pub ends : movedTo (p .0) w ≡ Ends → Bursts p (budget - left) w r₀ r′ mem₀ mem′ f from budget
   ends e =
@@ -213,9 +218,7 @@ module _ (p : ParcelAddr) (n : ℕ) (w : Work) (r r′ mem mem′ : List ℕ) (f
   turn-finished ne o e = ap (turnedBy n) e ∙ (rw (ne-eqb n budget ne) at (b .turn))
 
   pub still-fitting : length mem′ ≡ length mem → 4096 ≤ length mem → Fitting r′ (length mem′)
-  still-fitting e l =
-      let k = b .ready in
-      record { long = k .long; frame = k .frame; control = k .control; processor = k .processor; least = omega arith; most = k .reaches .size }
+  still-fitting e l = fits r′ f (length mem′) (b .ready) (omega arith)
 
 pub counted-small : (o : Answer) → counted o ≤ 1
 counted-small Stepped = omega arith

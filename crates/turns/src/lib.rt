@@ -3,8 +3,7 @@ pub mod pair;
 pub mod run;
 
 ghost use mathlib.Core.Path.{_≡_};
-ghost use mathlib.Core.List.{List};
-ghost use Prim.Native.Nat.{ℕ, _^_, _<_, _≤_};
+ghost use Prim.Native.Nat.{_^_, _<_, _≤_};
 ghost use lib.ListN.{length, getD};
 ghost use Rattle.machine.specs.declared.Answer.the-variants.{Exchanged};
 ghost use Rattle.machine.specs.declared.Last.the-variants.{Nothing};

@@ -1,0 +1,187 @@
+// A pair run: two processors over one memory, by a schedule. Their words stand one after the other in one list.
+ghost use mathlib.Core.Path.{_≡_};
+ghost use Prim.Native.Nat.{_-_, _^_, _<_, _≤_};
+ghost use lib.ListN.{length, getD};
+ghost use Rattle.machine.specs.declared.Last.the-variants.{Nothing};
+ghost use Rattle.machine.specs.State.{sharing};
+ghost use Rattle.machine.specs.Step.{out, finish};
+ghost use Rattle.machine.specs.Run.{pairEnded, pairOf};
+ghost use Rattle.machine.specs.Layout.{part, registersOf, stateOf, firstOf, secondOf};
+ghost use Rattle.dispatch.specs.Table.{Ready, Works};
+ghost use Rattle.laws.proofs.Laws.{Narrow};
+ghost use Rattle.turns.specs.Turn.{stateAt, Fitting};
+ghost use Rattle.turns.specs.Pair.{Side, sideOf, windowOf, Passes, Comes};
+use crate::Moved;
+use machine::Answer;
+use machine::Last;
+use machine::ParcelAddr;
+use machine::Reach;
+use machine::Work;
+
+// What the processor whose words start at `at` reaches.
+fn reach_at(pair: &[u64], mem: &[u64], at: usize) -> Reach
+    requires { ⌜ (length (now pair) ≡ 1344) × Side at ⌝ }
+    requires { ⌜ Fitting (part at 672 (now pair)) (length (now mem)) ⌝ }
+    ensures { λ f. ⌜ Ready (part at 672 (now (pair .entry))) f (length (now (mem .entry))) ⌝ }
+{
+    let end = at + 672;
+    access::reach(&pair[at..end], mem)
+}
+
+// The work of its step; the other's words stay.
+fn step_at(pair: &mut [u64], mem: &mut [u64], at: usize, f: Reach, p: ParcelAddr) -> Work
+    requires { ⌜ (length (now pair) ≡ 1344) × Side at ⌝ }
+    requires { ⌜ Ready (part at 672 (now pair)) f (length (now mem)) ⌝ }
+    requires { ⌜ p .0 < 2 ^ 24 ⌝ }
+    ensures { λ w. ⌜ Works w (part at 672 (now (pair .entry))) (part at 672 (now (pair .exit))) (now (mem .entry)) (now (mem .exit)) (p .0) ⌝ }
+    ensures { λ w. ⌜ part (672 - at) 672 (now (pair .exit)) ≡ part (672 - at) 672 (now (pair .entry)) ⌝ }
+{
+    let end = at + 672;
+    let r = &mut pair[at..end];
+    dispatch::work(r, mem, f, p)
+}
+
+// Its P becomes p.
+fn keep_p(pair: &mut [u64], at: usize, p: ParcelAddr)
+    requires { ⌜ (length (now pair) ≡ 1344) × Side at ⌝ }
+    ensures { λ _. ⌜ stateOf (part at 672 (now (pair .exit))) ≡ stateAt p (part at 672 (now (pair .entry))) ⌝ }
+    ensures { λ _. ⌜ part (672 - at) 672 (now (pair .exit)) ≡ part (672 - at) 672 (now (pair .entry)) ⌝ }
+{
+    let end = at + 672;
+    let r = &mut pair[at..end];
+    crate::set_p(r, p)
+}
+
+// The end of its step.
+fn finish_at(pair: &mut [u64], mem: &mut [u64], at: usize, p: ParcelAddr, w: Work) -> Answer
+    requires { ⌜ (length (now pair) ≡ 1344) × Side at ⌝ }
+    requires { ⌜ Fitting (part at 672 (now pair)) (length (now mem)) ⌝ }
+    requires { ⌜ (p .0 < 2 ^ 24) × Narrow w ⌝ }
+    ensures { λ o. ⌜ out o (stateOf (part at 672 (now (pair .exit)))) (sharing (now (mem .exit))) ≡ finish (stateAt p (part at 672 (now (pair .entry)))) w (registersOf (part at 672 (now (pair .entry)))) (sharing (now (mem .entry))) ⌝ }
+    ensures { λ o. ⌜ part (672 - at) 672 (now (pair .exit)) ≡ part (672 - at) 672 (now (pair .entry)) ⌝ }
+{
+    let end = at + 672;
+    let r = &mut pair[at..end];
+    crate::finish(r, mem, p, w)
+}
+
+// Where the words start of the processor that a byte names.
+fn side_of(byte: u8) -> usize
+    ensures { λ at. ⌜ (at ≡ sideOf byte) × (at ≤ 672) ⌝ }
+{
+    if byte == 0 { 0 } else { 672 }
+}
+
+fn window_of(at: usize, first: Reach, second: Reach) -> Reach
+    ensures { λ f. ⌜ f ≡ windowOf at first second ⌝ }
+{
+    if at == 0 { first } else { second }
+}
+
+// The processor whose step is next: where its words start, its P, and what it reaches.
+pub struct Next {
+    pub at: usize,
+    pub p: ParcelAddr,
+    pub f: Reach,
+}
+
+// The next step is of the processor that a byte names. P moves to and from its place only where that is another than before.
+fn pass(pair: &mut [u64], first: Reach, second: Reach, from: Next, byte: u8) -> Next
+    requires { ⌜ (length (now pair) ≡ 1344) × Side (from .at) ⌝ }
+    ensures { λ to. ⌜ to .at ≡ sideOf byte ⌝ }
+    ensures { λ to. ⌜ Passes from to first second (now (pair .entry)) (now (pair .exit)) ⌝ }
+{
+    let at = side_of(byte);
+    if at == from.at {
+        return from;
+    }
+    keep_p(pair, from.at, from.p);
+    Next {
+        at,
+        p: ParcelAddr(pair[at]),
+        f: window_of(at, first, second),
+    }
+}
+
+// How far a schedule came: whose step is next, its P, the steps, and how the work of the next ended, if it has one.
+pub struct Came {
+    pub at: usize,
+    pub p: ParcelAddr,
+    pub steps: usize,
+    pub work: Work,
+}
+
+// Steps until the schedule is spent or one does more than step. What both reach stays as it is all this time.
+fn take(pair: &mut [u64], mem: &mut [u64], schedule: &[u8]) -> Came
+    requires { ⌜ (length (now pair) ≡ 1344) × (length (now schedule) ≤ 65536) ⌝ }
+    requires { ⌜ Fitting (part 0 672 (now pair)) (length (now mem)) × Fitting (part 672 672 (now pair)) (length (now mem)) ⌝ }
+    requires { ⌜ (getD (now pair) 0 0 < 2 ^ 24) × (getD (now pair) 672 0 < 2 ^ 24) ⌝ }
+    ensures { λ o. ⌜ Comes (o .at) (o .p) (o .steps) (o .work) (now (schedule .entry)) (now (pair .entry)) (now (pair .exit)) (now (mem .entry)) (now (mem .exit)) ⌝ }
+{
+    let first = reach_at(pair, mem, 0);
+    let second = reach_at(pair, mem, 672);
+    let mut next = Next {
+        at: 0,
+        p: ParcelAddr(pair[0]),
+        f: first,
+    };
+    let mut n: usize = 0;
+    while n < schedule.len() {
+        let to = pass(pair, first, second, next, schedule[n]);
+        let at = to.at;
+        let f = to.f;
+        let p = to.p;
+        let w = step_at(pair, mem, at, f, p);
+        let Moved::At(q) = crate::move_p(p, w) else {
+            return Came {
+                at,
+                p,
+                steps: n,
+                work: w,
+            };
+        };
+        next = Next { at, p: q, f };
+        n += 1;
+    }
+    let at = next.at;
+    let p = next.p;
+    Came {
+        at,
+        p,
+        steps: n,
+        work: Work::To(p),
+    }
+}
+
+// The last answer of a pair run, and how many of its steps stepped or exchanged.
+pub struct Paired {
+    pub last: Last,
+    pub steps: u64,
+}
+
+// A step for each byte of a schedule, 0 naming the first processor, up to and including the first that exchanges or stops.
+pub fn take_schedule(pair: &mut [u64], mem: &mut [u64], schedule: &[u8]) -> Paired
+    requires { ⌜ (length (now pair) ≡ 1344) × (length (now schedule) ≤ 65536) ⌝ }
+    requires { ⌜ Fitting (part 0 672 (now pair)) (length (now mem)) × Fitting (part 672 672 (now pair)) (length (now mem)) ⌝ }
+    requires { ⌜ (getD (now pair) 0 0 < 2 ^ 24) × (getD (now pair) 672 0 < 2 ^ 24) ⌝ }
+    ensures { λ o. ⌜ pairEnded (o .last) (o .steps) (firstOf (now (pair .exit))) (secondOf (now (pair .exit))) (sharing (now (mem .exit))) ≡ pairOf (now (schedule .entry)) Nothing 0 (firstOf (now (pair .entry))) (secondOf (now (pair .entry))) (sharing (now (mem .entry))) ⌝ }
+{
+    let came = take(pair, mem, schedule);
+    let at = came.at;
+    let p = came.p;
+    let n = came.steps;
+    let steps = n as u64;
+    if n == schedule.len() {
+        keep_p(pair, at, p);
+        return Paired {
+            last: crate::last_after(steps),
+            steps,
+        };
+    }
+    let work = came.work;
+    let answer = finish_at(pair, mem, at, p, work);
+    Paired {
+        last: Last::Was(answer),
+        steps: steps + crate::count_of(answer),
+    }
+}
