@@ -10,7 +10,7 @@ use borrow.Author.Tests.{eqb-true, ne-eqb}
 use Rattle.machine.specs.declared.Work.the-variants.{PastOne}
 use Rattle.machine.specs.Word.{pick}
 use Rattle.machine.specs.Parcel.{iOf, jOf, kOf}
-use Rattle.machine.specs.State.{Registers, sj, ak, ToV, ToVM}
+use Rattle.machine.specs.State.{sj, ak, ToV, ToVM}
 use Rattle.machine.specs.Act as I
 use Rattle.machine.specs.Act.{masked, marksOf, act}
 use Rattle.machine.specs.Codes.{codeOf}
@@ -64,8 +64,8 @@ module _ (r r′ : List ℕ) (x : ℕ) where
   of-vj Parity e h = λ p mem. puts I.ParityV _ _ _ _ mem p _ (refl, h) (rw (e .0, e .1)) refl
 
   -- VM of Vj
-  pub marking : (test : Test) → (x / 512 ≡ 0o175) × (iOf x ≡ 0) × (kOf x ≡ digitOf test) → Puts r r′ (ToVM (marksOf (λ e. testOf test (vj r x e)) (registersOf r .vl)))
-      → Alone PastOne r r′ x
+  pub marking : (test : Test) → (x / 512 ≡ 0o175) × (iOf x ≡ 0) × (kOf x ≡ digitOf test)
+      → Puts r r′ (ToVM (marksOf (λ e. testOf test (vj r x e)) (registersOf r .vl))) → Alone PastOne r r′ x
   unfolding codeOf act
   marking Zero e h = λ p mem. puts I.MarkZ _ _ _ _ mem p _ (refl, h) (rw (e .0, e .1, e .2)) refl
   marking NonZero e h = λ p mem. puts I.MarkN _ _ _ _ mem p _ (refl, h) (rw (e .0, e .1, e .2)) refl

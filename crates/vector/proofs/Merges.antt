@@ -56,11 +56,8 @@ masked-shift : (vm e k m : ℕ) → m ≡ e + k → m < 64 → masked (vm * 2 ^ 
 masked-shift vm e k m h l =
     let n : k + 1 + (63 - k) ≡ 64 = omega arith in
     let d : 63 - k ≡ e + (63 - m) = omega arith in
-    let q : vm * 2 ^ e % 2 ^ 64 / 2 ^ (63 - k) % 2 ≡ vm / 2 ^ (63 - m) % 2
-          = ap (λ (z : ℕ). z % 2) (rw n at (field (vm * 2 ^ e) (k + 1) (63 - k)))
-          ∙ mod-mod-pow (vm * 2 ^ e / 2 ^ (63 - k)) k 1
-          ∙ rw (d, ← shr-shr (vm * 2 ^ e) e (63 - m), shl-shr vm e) in
-    ap (λ (z : ℕ). eqb z 1) q
+    let w : vm * 2 ^ e % 2 ^ 64 / 2 ^ (63 - k) ≡ vm * 2 ^ e / 2 ^ (63 - k) % 2 ^ (k + 1) = rw n at (field (vm * 2 ^ e) (k + 1) (63 - k)) in
+    rw (w, mod-mod-pow (vm * 2 ^ e / 2 ^ (63 - k)) k 1, d, ← shr-shr (vm * 2 ^ e) e (63 - m), shl-shr vm e)
 
 module _ (scalar : Bool) (x n s : ℕ) (r₀ : List ℕ) (same : s ≡ sj (registersOf r₀) (jOf x)) (short : n ≤ 64) where
   -- a loop that merges n elements of Vi; the places of element e of Vj, Vk and Vi
@@ -91,8 +88,9 @@ module _ (scalar : Bool) (x n s : ℕ) (r₀ : List ℕ) (same : s ≡ sj (regis
       )))
 
   -- and two more
-  pub goes-four : (e bits left right to : ℕ) (r r₁ r₂ : List ℕ) → Merging r e → e + 4 ≤ n → bits ≡ registersOf r₀ .vm * 2 ^ e % 2 ^ 64 → Places e left right to
-      → r₁ ≡ mergedTwo r bits scalar s left right to → r₂ ≡ mergedTwo r₁ (bits * 2 ^ 2 % 2 ^ 64) scalar s (left + 2) (right + 2) (to + 2) → Merging r₂ (e + 4)
+  pub goes-four : (e bits left right to : ℕ) (r r₁ r₂ : List ℕ) → Merging r e → e + 4 ≤ n → bits ≡ registersOf r₀ .vm * 2 ^ e % 2 ^ 64
+      → Places e left right to → r₁ ≡ mergedTwo r bits scalar s left right to
+      → r₂ ≡ mergedTwo r₁ (bits * 2 ^ 2 % 2 ^ 64) scalar s (left + 2) (right + 2) (to + 2) → Merging r₂ (e + 4)
   goes-four e bits left right to r r₁ r₂ d l b h p q =
       let two : e + 4 ≡ e + 2 + 2 = omega arith in
       let d₁ : Merging r₁ (e + 2) = rw p (goes-two e bits left right to r d (omega arith) b h) in
@@ -104,4 +102,5 @@ module _ (scalar : Bool) (x n s : ℕ) (r₀ : List ℕ) (same : s ≡ sj (regis
 pub record GoesOn (scalar : Bool) (x n s vm : ℕ) (r₀ : List ℕ) (e₀ : ℕ) (r : List ℕ) (e : ℕ) : Type 0 where
   pub within : e ≤ n
   pub long : length r ≡ 672
-  pub on : (w : List ℕ) → s ≡ sj (registersOf w) (jOf x) → vm ≡ registersOf w .vm → Doing x n (mergedOf scalar w x) w r₀ e₀ → Doing x n (mergedOf scalar w x) w r e
+  pub on : (w : List ℕ) → s ≡ sj (registersOf w) (jOf x) → vm ≡ registersOf w .vm → Doing x n (mergedOf scalar w x) w r₀ e₀
+      → Doing x n (mergedOf scalar w x) w r e

@@ -200,9 +200,18 @@ fn left_of(r: &[u64], scalar: bool, s: u64, at: usize) -> u64
     if scalar { s } else { r[at] }
 }
 
-// Two elements of a merge, by the first two bits of VM that are left; the masks are those of 00, 01, 10 and 11. Both are made before
-// the first is stored.
-fn two(r: &mut [u64], masks: &[u64; 8], bits: u64, scalar: bool, s: u64, left: usize, right: usize, to: usize)
+// Two elements of a merge, by the first two of the bits; the masks are those of 00, 01, 10 and 11. Both are made before the first is
+// stored, so that the compiler can do them as one.
+fn two(
+    r: &mut [u64],
+    masks: &[u64; 8],
+    bits: u64,
+    scalar: bool,
+    s: u64,
+    left: usize,
+    right: usize,
+    to: usize,
+)
     requires { ⌜ (length (now r) ≡ 672) × (now masks ≡ twoMasks) ⌝ }
     requires { ⌜ (left + 2 ≤ 672) × (right + 2 ≤ 672) × (to + 2 ≤ 672) ⌝ }
     ensures { λ _. ⌜ now (r .exit) ≡ mergedTwo (now (r .entry)) bits scalar s left right to ⌝ }
@@ -214,7 +223,7 @@ fn two(r: &mut [u64], masks: &[u64; 8], bits: u64, scalar: bool, s: u64, left: u
     r[to + 1] = z;
 }
 
-// 146: Vi from Sj where VM has a one, else from Vk. 147: the same from Vj.
+// 146 and 147 with the masks; what is left after the fours goes one by one.
 fn merge_by(r: &mut [u64], masks: &[u64; 8], scalar: bool, x: u64)
     requires { ⌜ Vector (now r) × (now masks ≡ twoMasks) × (x / 512 ≡ pick scalar 0o146 0o147) ⌝ }
     ensures { λ _. ⌜ Alone PastOne (now (r .entry)) (now (r .exit)) x ⌝ }
@@ -230,7 +239,16 @@ fn merge_by(r: &mut [u64], masks: &[u64; 8], scalar: bool, x: u64)
     let mut e: usize = 0;
     while e < fours {
         two(r, masks, bits, scalar, s, left + e, right + e, to + e);
-        two(r, masks, bits << 2, scalar, s, left + e + 2, right + e + 2, to + e + 2);
+        two(
+            r,
+            masks,
+            bits << 2,
+            scalar,
+            s,
+            left + e + 2,
+            right + e + 2,
+            to + e + 2,
+        );
         bits = bits << 4;
         e += 4;
     }
@@ -240,6 +258,7 @@ fn merge_by(r: &mut [u64], masks: &[u64; 8], scalar: bool, x: u64)
     }
 }
 
+// 146: Vi from Sj where VM has a one, else from Vk. 147: the same from Vj.
 pub fn merge(r: &mut [u64], x: u64)
     requires { ⌜ Vector (now r) × ((x / 512 ≡ 0o146) ⊎ (x / 512 ≡ 0o147)) ⌝ }
     ensures { λ _. ⌜ Alone PastOne (now (r .entry)) (now (r .exit)) x ⌝ }

@@ -30,8 +30,7 @@ loop-again c =
     let loop = c .before .before .before .before .loop in
     let a-k = c .before .before .before .before .before .before .before .a-k in
     let v-j = c .before .before .before .before .before .before .before .before .before .v-j in
-    let start = c .before .before .before .before .before .before .before .before .before .before .before .before in
-    (
+    let start = c .before .before .before .before .before .before .before .before .before .before .before .before in (
       goes (loop .inv .0) _ _ (omega arith)
           (c .left-pair .ensures
           ∙ rw (
@@ -54,8 +53,7 @@ returns c =
     let a-k = c .before .before .before .before .before .before .a-k in
     let v-j = c .before .before .before .before .before .before .before .before .v-j in
     let start = c .before .before .before .before .before .before .before .before .before .before .before in
-    λ p mem. puts LeftPairV _ _ _ _ mem p _
-    (
+    λ p mem. puts LeftPairV _ _ _ _ mem p _ (
       refl,
       ends (goes (loop .inv .0) _ _ (omega arith)
           (c .left-pair2 .ensures

@@ -39,8 +39,7 @@ loop-again c =
     let v-j = c .before .before .before .before .before .before .before .before .before .before .before .before .before .before .before .v-j in
     let s-j = c .before .before .before .before .before .before .before .before .before .before .before .before .before .before .before .before .s-j in
     let v-i = c .before .before .before .before .before .before .before .before .before .before .before .before .before .before .before .before .before .before .v-i in
-    let start = c .before .before .before .before .before .before .before .before .before .before .before .before .before .before .before .before .before .before .before .before in
-    (
+    let start = c .before .before .before .before .before .before .before .before .before .before .before .before .before .before .before .before .before .before .before .before in (
       goes-four (start .args .scalar) (start .args .x) (vl .result) (s-j .result) _ (s-j .ensures) (omega arith) (loop .e) (loop .bits)
           (v-j .result + loop .e) (v-k .result + loop .e) (v-i .result + loop .e) _ _ _ (loop .inv .0) (omega arith) (loop .inv .1) (omega arith)
           (two .ensures) (c .before .before .two2 .ensures),
