@@ -317,7 +317,8 @@ fn right_pairs(r: &mut [u64], x: u64) -> bool
     let mut e: usize = 0;
     while e < n {
         let low = r[from + e];
-        r[to + e] = word::right_pair(high, low, count);
+        let y = word::right_pair(high, low, count);
+        r[to + e] = y;
         high = low;
         e += 1;
     }
