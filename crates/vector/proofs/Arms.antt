@@ -32,7 +32,8 @@ mergedOf scalar r x e = pick (masked (registersOf r .vm) e) (pick scalar (sj (re
 
 module _ (r r′ : List ℕ) (x : ℕ) where
   -- Vi of Sj and Vk
-  pub with-sj : (op : TwoWords) → x / 512 ≡ codeOfTwo op → Puts r r′ (ToV (iOf x) (λ e. twoOf op (sj (registersOf r) (jOf x)) (vk r x e))) → Alone PastOne r r′ x
+  pub with-sj : (op : TwoWords) → x / 512 ≡ codeOfTwo op → Puts r r′ (ToV (iOf x) (λ e. twoOf op (sj (registersOf r) (jOf x)) (vk r x e)))
+      → Alone PastOne r r′ x
   unfolding codeOf act
   with-sj And e h = λ p mem. puts I.AndSV _ _ _ _ mem p _ (refl, h) (rw e) refl
   with-sj Or e h = λ p mem. puts I.OrSV _ _ _ _ mem p _ (refl, h) (rw e) refl

@@ -33,13 +33,14 @@ two-requires-2 c κs =
 loop-again : tie.Need-loop-again Inv-loop μ-loop Inv-loop2 μ-loop2
 loop-again c =
     let two = c .before .before .before .before .before .before .two in
-    let loop = c .before .before .before .before .before .before .before .before .before .loop in
-    let vl = c .before .before .before .before .before .before .before .before .before .before .vl in
-    let v-k = c .before .before .before .before .before .before .before .before .before .before .before .before .before .before .v-k in
-    let v-j = c .before .before .before .before .before .before .before .before .before .before .before .before .before .before .before .v-j in
-    let s-j = c .before .before .before .before .before .before .before .before .before .before .before .before .before .before .before .before .s-j in
-    let v-i = c .before .before .before .before .before .before .before .before .before .before .before .before .before .before .before .before .before .before .v-i in
-    let start = c .before .before .before .before .before .before .before .before .before .before .before .before .before .before .before .before .before .before .before .before in (
+    let l = c .before .before .before .before .before .before .before .before .before in
+    let loop = l .loop in
+    let vl = l .before .vl in
+    let v-k = l .before .before .before .before .before .v-k in
+    let v-j = l .before .before .before .before .before .before .v-j in
+    let s-j = l .before .before .before .before .before .before .before .s-j in
+    let v-i = l .before .before .before .before .before .before .before .before .before .v-i in
+    let start = l .before .before .before .before .before .before .before .before .before .before .before in (
       goes-four (start .args .scalar) (start .args .x) (vl .result) (s-j .result) _ (s-j .ensures) (omega arith) (loop .e) (loop .bits)
           (v-j .result + loop .e) (v-k .result + loop .e) (v-i .result + loop .e) _ _ _ (loop .inv .0) (omega arith) (loop .inv .1) (omega arith)
           (two .ensures) (c .before .before .two2 .ensures),
@@ -53,12 +54,13 @@ loop2-holds c = record { within = c .before .loop .inv .0 .within; long = c .bef
 
 loop2-again : tie.Need-loop2-again Inv-loop μ-loop Inv-loop2 μ-loop2
 loop2-again c =
-    let loop2 = c .before .before .before .before .before .loop2 in
-    let vl = c .before .before .before .before .before .before .before .before .vl in
-    let v-k = c .before .before .before .before .before .before .before .before .before .before .before .before .v-k in
-    let v-j = c .before .before .before .before .before .before .before .before .before .before .before .before .before .v-j in
-    let s-j = c .before .before .before .before .before .before .before .before .before .before .before .before .before .before .s-j in
-    let start = c .before .before .before .before .before .before .before .before .before .before .before .before .before .before .before .before .before .before in
+    let l = c .before .before .before .before .before in
+    let loop2 = l .loop2 in
+    let vl = l .before .before .before .vl in
+    let v-k = l .before .before .before .before .before .before .before .v-k in
+    let v-j = l .before .before .before .before .before .before .before .before .v-j in
+    let s-j = l .before .before .before .before .before .before .before .before .before .s-j in
+    let start = l .before .before .before .before .before .before .before .before .before .before .before .before .before in
     record {
       within = omega arith;
       long = search needs;
