@@ -4,11 +4,18 @@ use mathlib.Core.Path.{_≡_, refl, _∙_, ap}
 use mathlib.Core.List.{List}
 use native.Mathlib.Omega.{arith}
 use lib.ListN.{length, getD, set, length-set}
-use Rattle.machine.specs.Parcel.{iOf}
+use Rattle.machine.specs.Parcel.{iOf, jOf, kOf}
 use Rattle.machine.specs.State.{fill, el, ToV}
 use Rattle.machine.specs.Layout.{registersOf}
 use Rattle.access.specs.Executed.{Puts}
 use Rattle.access.proofs.Places.{ahead, fill-turn, to-elements}
+
+-- element e of Vj and of Vk, where x names j and k
+abbrev pub vj : List ℕ → ℕ → ℕ → ℕ
+vj r x e = el (registersOf r .v) (jOf x) e
+
+abbrev pub vk : List ℕ → ℕ → ℕ → ℕ
+vk r x e = el (registersOf r .v) (kOf x) e
 
 -- a loop that makes n elements of Vi, where x names i, element e being f e: from r₀ to r it has made the first e
 pub record Doing (x n : ℕ) (f : ℕ → ℕ) (r₀ r : List ℕ) (e : ℕ) : Type 0 where

@@ -9,18 +9,15 @@ use lib.ListN.{length, getD, set}
 use lib.Dec.{eqb}
 use lib.Pow.{pow-lt, pow-add, shl-shr, shr-shr, field, mod-mod-pow}
 use lib.Bits.{and-zero-r, or-zero-r, and-mask}
-use Rattle.machine.specs.declared.Work.the-variants.{PastOne}
 use Rattle.machine.specs.Word.{pick, merge}
 use Rattle.machine.specs.Parcel.{iOf, jOf, kOf}
-use Rattle.machine.specs.State.{Registers, sj, el, ToV}
-use Rattle.machine.specs.Act.{masked, MergeSV, MergeVV, act}
-use Rattle.machine.specs.Codes.{codeOf}
+use Rattle.machine.specs.State.{sj}
+use Rattle.machine.specs.Act.{masked}
 use Rattle.machine.specs.Layout.{registersOf}
-use Rattle.access.specs.Executed.{Alone, Puts}
-use Rattle.access.proofs.Leaf.{puts}
 use Rattle.word.proofs.Laws.{product-mod}
 use Rattle.vector.specs.Element.{twoMasks, leftAt, mergedTwo}
 use Rattle.vector.proofs.Loops.{Doing, reads, goes}
+use Rattle.vector.proofs.Arms.{mergedOf}
 
 -- by a mask of all ones, or of none
 pub merge-by : (t : Bool) (x y : ℕ) → x < 2 ^ 64 → y < 2 ^ 64 → merge x y (pick t (2 ^ 64 - 1) 0) ≡ pick t x y
@@ -59,27 +56,14 @@ masked-shift : (vm e k m : ℕ) → m ≡ e + k → m < 64 → masked (vm * 2 ^ 
 masked-shift vm e k m h l =
     let n : k + 1 + (63 - k) ≡ 64 = omega arith in
     let d : 63 - k ≡ e + (63 - m) = omega arith in
-    let q : vm * 2 ^ e % 2 ^ 64 / 2 ^ (63 - k) % 2 ≡ vm / 2 ^ (63 - m) % 2
-          = ap (λ (z : ℕ). z % 2) (rw n at (field (vm * 2 ^ e) (k + 1) (63 - k)))
-          ∙ mod-mod-pow (vm * 2 ^ e / 2 ^ (63 - k)) k 1
-          ∙ rw (d, ← shr-shr (vm * 2 ^ e) e (63 - m), shl-shr vm e) in
-    ap (λ (z : ℕ). eqb z 1) q
-
--- element e of a merge of Sj or Vj, and Vk
-abbrev pub mergedOf : Bool → Registers → ℕ → ℕ → ℕ
-mergedOf scalar r x e = pick (masked (r .vm) e) (pick scalar (sj r (jOf x)) (el (r .v) (jOf x) e)) (el (r .v) (kOf x) e)
-
-pub merging : (scalar : Bool) (r r′ : List ℕ) (x : ℕ) → x / 512 ≡ pick scalar 0o146 0o147 → Puts r r′ (ToV (iOf x) (mergedOf scalar (registersOf r) x)) → Alone PastOne r r′ x
-unfolding codeOf act
-merging true r r′ x e h = λ p mem. puts MergeSV _ _ _ _ mem p _ (refl, h) (rw e) refl
-merging false r r′ x e h = λ p mem. puts MergeVV _ _ _ _ mem p _ (refl, h) (rw e) refl
+    let w : vm * 2 ^ e % 2 ^ 64 / 2 ^ (63 - k) ≡ vm * 2 ^ e / 2 ^ (63 - k) % 2 ^ (k + 1) = rw n at (field (vm * 2 ^ e) (k + 1) (63 - k)) in
+    rw (w, mod-mod-pow (vm * 2 ^ e / 2 ^ (63 - k)) k 1, d, ← shr-shr (vm * 2 ^ e) e (63 - m), shl-shr vm e)
 
 module _ (scalar : Bool) (x n s : ℕ) (r₀ : List ℕ) (same : s ≡ sj (registersOf r₀) (jOf x)) (short : n ≤ 64) where
-  -- a loop that merges n elements of Vi
+  -- a loop that merges n elements of Vi; the places of element e of Vj, Vk and Vi
   abbrev Merging : List ℕ → ℕ → Type 0
-  Merging r e = Doing x n (mergedOf scalar (registersOf r₀) x) r₀ r e
+  Merging r e = Doing x n (mergedOf scalar r₀ x) r₀ r e
 
-  -- the places of element e of Vj, Vk and Vi
   abbrev Places : ℕ → ℕ → ℕ → ℕ → Type 0
   Places e left right to = (left ≡ 160 + jOf x * 64 + e) × (right ≡ 160 + kOf x * 64 + e) × (to ≡ 160 + iOf x * 64 + e)
 
@@ -89,18 +73,13 @@ module _ (scalar : Bool) (x n s : ℕ) (r₀ : List ℕ) (same : s ≡ sj (regis
   goes-one e left right to l y r d h g p q =
       goes d to y (omega arith) (cc (reads d (jOf x) e left (omega arith), reads d (kOf x) e right (omega arith)))
 
-  -- two elements more
+  -- two elements more, where the bits of VM from e on are the first of a word
   goes-two : (e bits left right to : ℕ) (r : List ℕ) → Merging r e → e + 2 ≤ n → bits ≡ registersOf r₀ .vm * 2 ^ e % 2 ^ 64 → Places e left right to
       → Merging (mergedTwo r bits scalar s left right to) (e + 2)
   goes-two e bits left right to r d l b h =
       let two : e + 2 ≡ e + 1 + 1 = omega arith in
       rw two
-      (goes (goes d to _ (omega arith)
-      (cc (
-        masked-shift (registersOf r₀ .vm) e 0 e (omega arith) (omega arith),
-        reads d (jOf x) e left (omega arith),
-        reads d (kOf x) e right (omega arith),
-      )))
+      (goes (goes-one e left right to _ _ r d (omega arith) h refl (cc (masked-shift (registersOf r₀ .vm) e 0 e (omega arith) (omega arith))))
       (to + 1) _ (omega arith)
       (cc (
         masked-shift (registersOf r₀ .vm) e 1 (e + 1) (omega arith) (omega arith),
@@ -109,16 +88,19 @@ module _ (scalar : Bool) (x n s : ℕ) (r₀ : List ℕ) (same : s ≡ sj (regis
       )))
 
   -- and two more
-  pub goes-four : (e bits left right to : ℕ) (r r₁ r₂ : List ℕ) → Merging r e → e + 4 ≤ n → bits ≡ registersOf r₀ .vm * 2 ^ e % 2 ^ 64 → Places e left right to
-      → r₁ ≡ mergedTwo r bits scalar s left right to → r₂ ≡ mergedTwo r₁ (bits * 2 ^ 2 % 2 ^ 64) scalar s (left + 2) (right + 2) (to + 2) → Merging r₂ (e + 4)
+  pub goes-four : (e bits left right to : ℕ) (r r₁ r₂ : List ℕ) → Merging r e → e + 4 ≤ n → bits ≡ registersOf r₀ .vm * 2 ^ e % 2 ^ 64
+      → Places e left right to → r₁ ≡ mergedTwo r bits scalar s left right to
+      → r₂ ≡ mergedTwo r₁ (bits * 2 ^ 2 % 2 ^ 64) scalar s (left + 2) (right + 2) (to + 2) → Merging r₂ (e + 4)
   goes-four e bits left right to r r₁ r₂ d l b h p q =
       let two : e + 4 ≡ e + 2 + 2 = omega arith in
       let d₁ : Merging r₁ (e + 2) = rw p (goes-two e bits left right to r d (omega arith) b h) in
-      rw (two, q) (goes-two (e + 2) (bits * 2 ^ 2 % 2 ^ 64) (left + 2) (right + 2) (to + 2) r₁ d₁ (omega arith) (rw b (shift-more (registersOf r₀ .vm) e 2 (omega arith))) (omega arith))
+      rw (two, q)
+      (goes-two (e + 2) (bits * 2 ^ 2 % 2 ^ 64) (left + 2) (right + 2) (to + 2) r₁ d₁ (omega arith)
+      (rw b (shift-more (registersOf r₀ .vm) e 2 (omega arith))) (omega arith))
 
--- what a loop that began at element e₀ with r₀ makes of a merge that was under way, from whatever w
+-- what a loop that began with r₀ at element e₀ makes of any merge, from w on, that had come that far
 pub record GoesOn (scalar : Bool) (x n s vm : ℕ) (r₀ : List ℕ) (e₀ : ℕ) (r : List ℕ) (e : ℕ) : Type 0 where
   pub within : e ≤ n
   pub long : length r ≡ 672
-  pub on : (w : List ℕ) → s ≡ sj (registersOf w) (jOf x) → vm ≡ registersOf w .vm → Doing x n (mergedOf scalar (registersOf w) x) w r₀ e₀
-      → Doing x n (mergedOf scalar (registersOf w) x) w r e
+  pub on : (w : List ℕ) → s ≡ sj (registersOf w) (jOf x) → vm ≡ registersOf w .vm → Doing x n (mergedOf scalar w x) w r₀ e₀
+      → Doing x n (mergedOf scalar w x) w r e

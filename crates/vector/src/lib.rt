@@ -6,13 +6,12 @@ ghost use mathlib.Core.Bool.{true};
 ghost use Prim.Native.Nat.{_+_, _-_, _*_, _/_, _^_, _<_, _≤_};
 ghost use lib.ListN.{length};
 ghost use Rattle.machine.specs.declared.Work.the-variants.{PastOne, NotHeld};
-ghost use Rattle.machine.specs.Word.{pick, shiftLeftPair, shiftRightPair};
+ghost use Rattle.machine.specs.Word.{pick};
 ghost use Rattle.machine.specs.Parcel.{iOf, jOf, kOf};
-ghost use Rattle.machine.specs.State.{el, ToV, ToVM};
-ghost use Rattle.machine.specs.Act.{masked, marksOf, after, before};
+ghost use Rattle.machine.specs.Act.{masked};
 ghost use Rattle.machine.specs.Layout.{registersOf};
-ghost use Rattle.access.specs.Executed.{Alone, Puts};
-ghost use Rattle.vector.specs.Element.{twoOf, oneOf, testOf, codeOfTwo, plain, other, Vector, twoMasks, leftAt, mergedTwo};
+ghost use Rattle.access.specs.Executed.{Alone};
+ghost use Rattle.vector.specs.Element.{twoOf, oneOf, testOf, codeOfTwo, OneCode, digitOf, plain, other, Vector, twoMasks, leftAt, mergedTwo};
 use access::V;
 use access::VM;
 
@@ -201,9 +200,18 @@ fn left_of(r: &[u64], scalar: bool, s: u64, at: usize) -> u64
     if scalar { s } else { r[at] }
 }
 
-// Two elements of a merge, by the first two bits of VM that are left; the masks are those of 00, 01, 10 and 11. Both are made before
-// the first is stored.
-fn two(r: &mut [u64], masks: &[u64; 8], bits: u64, scalar: bool, s: u64, left: usize, right: usize, to: usize)
+// Two elements of a merge, by the first two of the bits; the masks are those of 00, 01, 10 and 11. Both are made before the first is
+// stored, so that the compiler can do them as one.
+fn two(
+    r: &mut [u64],
+    masks: &[u64; 8],
+    bits: u64,
+    scalar: bool,
+    s: u64,
+    left: usize,
+    right: usize,
+    to: usize,
+)
     requires { ⌜ (length (now r) ≡ 672) × (now masks ≡ twoMasks) ⌝ }
     requires { ⌜ (left + 2 ≤ 672) × (right + 2 ≤ 672) × (to + 2 ≤ 672) ⌝ }
     ensures { λ _. ⌜ now (r .exit) ≡ mergedTwo (now (r .entry)) bits scalar s left right to ⌝ }
@@ -215,7 +223,7 @@ fn two(r: &mut [u64], masks: &[u64; 8], bits: u64, scalar: bool, s: u64, left: u
     r[to + 1] = z;
 }
 
-// 146: Vi from Sj where VM has a one, else from Vk. 147: the same from Vj.
+// 146 and 147 with the masks; what is left after the fours goes one by one.
 fn merge_by(r: &mut [u64], masks: &[u64; 8], scalar: bool, x: u64)
     requires { ⌜ Vector (now r) × (now masks ≡ twoMasks) × (x / 512 ≡ pick scalar 0o146 0o147) ⌝ }
     ensures { λ _. ⌜ Alone PastOne (now (r .entry)) (now (r .exit)) x ⌝ }
@@ -231,7 +239,16 @@ fn merge_by(r: &mut [u64], masks: &[u64; 8], scalar: bool, x: u64)
     let mut e: usize = 0;
     while e < fours {
         two(r, masks, bits, scalar, s, left + e, right + e, to + e);
-        two(r, masks, bits << 2, scalar, s, left + e + 2, right + e + 2, to + e + 2);
+        two(
+            r,
+            masks,
+            bits << 2,
+            scalar,
+            s,
+            left + e + 2,
+            right + e + 2,
+            to + e + 2,
+        );
         bits = bits << 4;
         e += 4;
     }
@@ -241,6 +258,7 @@ fn merge_by(r: &mut [u64], masks: &[u64; 8], scalar: bool, x: u64)
     }
 }
 
+// 146: Vi from Sj where VM has a one, else from Vk. 147: the same from Vj.
 pub fn merge(r: &mut [u64], x: u64)
     requires { ⌜ Vector (now r) × ((x / 512 ≡ 0o146) ⊎ (x / 512 ≡ 0o147)) ⌝ }
     ensures { λ _. ⌜ Alone PastOne (now (r .entry)) (now (r .exit)) x ⌝ }
@@ -251,12 +269,14 @@ pub fn merge(r: &mut [u64], x: u64)
 }
 
 // 150, 151, 174: Vi from Vj.
-fn one_vector(r: &mut [u64], op: OneWord, count: u64, x: u64) -> bool
+fn one_vector(r: &mut [u64], op: OneWord, x: u64) -> bool
     requires { ⌜ Vector (now r) ⌝ }
-    ensures { λ held. ⌜ (held ≡ true) × Puts (now (r .entry)) (now (r .exit)) (ToV (iOf x) (λ e. oneOf op (el (registersOf (now (r .entry)) .v) (jOf x) e) count)) ⌝ }
+    requires { ⌜ OneCode op x ⌝ }
+    ensures { λ held. ⌜ Alone (pick held PastOne NotHeld) (now (r .entry)) (now (r .exit)) x ⌝ }
 {
     let to = v_i(x);
     let from = v_j(x);
+    let count = access::a_k(r, x);
     let n = access::vl(r);
     let mut e: usize = 0;
     while e < n {
@@ -267,12 +287,13 @@ fn one_vector(r: &mut [u64], op: OneWord, count: u64, x: u64) -> bool
 }
 
 // 152: each element of Vj with the one after it, the last with zero, shifted left.
-fn left_pairs(r: &mut [u64], count: u64, x: u64) -> bool
-    requires { ⌜ Vector (now r) ⌝ }
-    ensures { λ held. ⌜ (held ≡ true) × Puts (now (r .entry)) (now (r .exit)) (ToV (iOf x) (λ e. shiftLeftPair (el (registersOf (now (r .entry)) .v) (jOf x) e) (after (registersOf (now (r .entry)) .vl) (el (registersOf (now (r .entry)) .v) (jOf x)) e) count)) ⌝ }
+fn left_pairs(r: &mut [u64], x: u64) -> bool
+    requires { ⌜ Vector (now r) × (x / 512 ≡ 0o152) ⌝ }
+    ensures { λ held. ⌜ Alone (pick held PastOne NotHeld) (now (r .entry)) (now (r .exit)) x ⌝ }
 {
     let to = v_i(x);
     let from = v_j(x);
+    let count = access::a_k(r, x);
     let last = access::vl(r) - 1;
     let mut e: usize = 0;
     while e < last {
@@ -284,28 +305,43 @@ fn left_pairs(r: &mut [u64], count: u64, x: u64) -> bool
 }
 
 // 153: each element of Vj with the one before it, the first with zero, shifted right.
-fn right_pairs(r: &mut [u64], count: u64, x: u64) -> bool
-    requires { ⌜ Vector (now r) ⌝ }
-    ensures { λ held. ⌜ (held ≡ true) × Puts (now (r .entry)) (now (r .exit)) (ToV (iOf x) (λ e. shiftRightPair (before (el (registersOf (now (r .entry)) .v) (jOf x)) e) (el (registersOf (now (r .entry)) .v) (jOf x) e) count)) ⌝ }
+fn right_pairs(r: &mut [u64], x: u64) -> bool
+    requires { ⌜ Vector (now r) × (x / 512 ≡ 0o153) ⌝ }
+    ensures { λ held. ⌜ Alone (pick held PastOne NotHeld) (now (r .entry)) (now (r .exit)) x ⌝ }
 {
     let to = v_i(x);
     let from = v_j(x);
+    let count = access::a_k(r, x);
     let n = access::vl(r);
     let mut high: u64 = 0;
     let mut e: usize = 0;
     while e < n {
         let low = r[from + e];
-        r[to + e] = word::right_pair(high, low, count);
+        let y = word::right_pair(high, low, count);
+        r[to + e] = y;
         high = low;
         e += 1;
     }
     true
 }
 
+// 174: ones in each element of Vj, or their parity.
+fn count(r: &mut [u64], x: u64) -> bool
+    requires { ⌜ Vector (now r) × (x / 512 ≡ 0o174) ⌝ }
+    ensures { λ held. ⌜ Alone (pick held PastOne NotHeld) (now (r .entry)) (now (r .exit)) x ⌝ }
+{
+    match access::k(x) {
+        1 => one_vector(r, OneWord::Ones, x),
+        2 => one_vector(r, OneWord::Parity, x),
+        _ => false,
+    }
+}
+
 // 175: VM has a one for each element of Vj that meets the test.
 fn mark_where(r: &mut [u64], test: Test, x: u64) -> bool
     requires { ⌜ Vector (now r) ⌝ }
-    ensures { λ held. ⌜ (held ≡ true) × Puts (now (r .entry)) (now (r .exit)) (ToVM (marksOf (λ e. testOf test (el (registersOf (now (r .entry)) .v) (jOf x) e)) (registersOf (now (r .entry)) .vl))) ⌝ }
+    requires { ⌜ (x / 512 ≡ 0o175) × (iOf x ≡ 0) × (kOf x ≡ digitOf test) ⌝ }
+    ensures { λ held. ⌜ Alone (pick held PastOne NotHeld) (now (r .entry)) (now (r .exit)) x ⌝ }
 {
     let from = v_j(x);
     let n = access::vl(r);
@@ -319,19 +355,7 @@ fn mark_where(r: &mut [u64], test: Test, x: u64) -> bool
     true
 }
 
-// 174: ones in each element of Vj, or their parity.
-fn count(r: &mut [u64], x: u64) -> bool
-    requires { ⌜ Vector (now r) × (x / 512 ≡ 0o174) ⌝ }
-    ensures { λ held. ⌜ Alone (pick held PastOne NotHeld) (now (r .entry)) (now (r .exit)) x ⌝ }
-{
-    match access::k(x) {
-        1 => one_vector(r, OneWord::Ones, 0, x),
-        2 => one_vector(r, OneWord::Parity, 0, x),
-        _ => false,
-    }
-}
-
-// 175: VM marks the elements of Vj that are zero, not zero, plus or minus.
+// 175: the elements of Vj that are zero, not zero, plus or minus.
 fn mark(r: &mut [u64], x: u64) -> bool
     requires { ⌜ Vector (now r) × (x / 512 ≡ 0o175) ⌝ }
     ensures { λ held. ⌜ Alone (pick held PastOne NotHeld) (now (r .entry)) (now (r .exit)) x ⌝ }
@@ -354,10 +378,10 @@ pub fn others(r: &mut [u64], x: u64) -> bool
     ensures { λ held. ⌜ Alone (pick held PastOne NotHeld) (now (r .entry)) (now (r .exit)) x ⌝ }
 {
     match x / 512 {
-        0o150 => one_vector(r, OneWord::Left, access::a_k(r, x), x),
-        0o151 => one_vector(r, OneWord::Right, access::a_k(r, x), x),
-        0o152 => left_pairs(r, access::a_k(r, x), x),
-        0o153 => right_pairs(r, access::a_k(r, x), x),
+        0o150 => one_vector(r, OneWord::Left, x),
+        0o151 => one_vector(r, OneWord::Right, x),
+        0o152 => left_pairs(r, x),
+        0o153 => right_pairs(r, x),
         0o174 => count(r, x),
         _ => mark(r, x),
     }

@@ -1,17 +1,15 @@
 use Prim.Native.Nat.{_+_, _-_}
 use native.Mathlib.Omega.{arith}
 use Rattle.machine.specs.Parcel.{jOf, kOf}
-use Rattle.machine.specs.State.{el}
-use Rattle.machine.specs.Layout.{registersOf}
 use Rattle.vector.specs.Element.{twoOf}
-use Rattle.vector.proofs.Loops.{Doing, begins, reads, goes, ends}
+use Rattle.vector.proofs.Loops.{vj, vk, Doing, begins, reads, goes, ends}
 use Rattle.vector.proofs.Arms.{with-vj}
 use borrow.Author.Needs.{needs}
 use Rattle.vector.proofs.both.Statement.{statement}
 use Rattle.vector.proofs.both.Tie as tie
 
 abbrev Inv-loop : tie.InvT-loop
-Inv-loop r₀ op x n to left right e₀ r e = Doing x n (λ q. twoOf op (el (registersOf r₀ .v) (jOf x) q) (el (registersOf r₀ .v) (kOf x) q)) r₀ r e
+Inv-loop r₀ op x n to left right e₀ r e = Doing x n (λ q. twoOf op (vj r₀ x q) (vk r₀ x q)) r₀ r e
 
 abbrev μ-loop : tie.MeasureT-loop
 μ-loop r₀ op x n to left right e₀ r e = n - e

@@ -2,10 +2,9 @@ use Prim.Native.Nat.{ℕ, zero, suc}
 use mathlib.Core.Logic.{_≢_}
 use mathlib.Core.List.{[], _∷_}
 use mathlib.Core.Path.{_≡_, refl}
-use Rattle.machine.specs.Act.{OnesV, ParityV, act}
+use Rattle.machine.specs.Act.{OnesV, ParityV}
 use Rattle.machine.specs.Codes.{One, None, nth, codeOf}
 use Rattle.access.proofs.Leaf.{unheld}
-use Rattle.vector.proofs.Arms.{holds}
 use borrow.Author.Needs.{needs}
 use Rattle.vector.proofs.count.Statement.{statement}
 use Rattle.vector.proofs.count.Tie as tie
@@ -17,22 +16,6 @@ none-174 (suc zero) h g = absurd (h refl)
 none-174 (suc (suc zero)) h g = absurd (g refl)
 none-174 (suc (suc (suc k))) h g = refl
 
-returns : tie.Need-returns
-unfolding codeOf act
-returns c =
-    let match = c .before .before .before .before .match in
-    let the-k = c .before .before .before .before .before .k in
-    let start = c .before .before .before .before .before .before .before in
-    λ p mem. holds OnesV _ _ _ _ mem p _ (c .before .before .one-vector .ensures) (rw (start .pre .1, ← the-k .ensures, match .keys1)) refl
-
-returns-2 : tie.Need-returns-2
-unfolding codeOf act
-returns-2 c =
-    let match = c .before .before .before .before .match in
-    let the-k = c .before .before .before .before .before .k in
-    let start = c .before .before .before .before .before .before .before in
-    λ p mem. holds ParityV _ _ _ _ mem p _ (c .before .before .one-vector2 .ensures) (rw (start .pre .1, ← the-k .ensures, match .keys2)) refl
-
 returns-3 : tie.Need-returns-3
 unfolding codeOf
 returns-3 c =
@@ -42,4 +25,4 @@ returns-3 c =
 pub count-spec : {M : Type 1} → statement M
 count-spec =
     tie.close (tie.spec (λ c κs. search needs) (λ c κs. search needs) (λ c κs. search needs) (λ c. search needs)
-    returns (λ c. search needs) returns-2 returns-3)
+    (λ c. search needs) (λ c. search needs) (λ c. search needs) returns-3)

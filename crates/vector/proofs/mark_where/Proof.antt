@@ -1,21 +1,21 @@
-use Prim.Native.Nat.{_+_, _-_, _*_, _<_, _≤_}
+use Prim.Native.Nat.{_-_, _≤_}
 use mathlib.Core.Path.{_≡_, refl, _∙_}
 use mathlib.Core.Logic.{inl, inr}
 use native.Mathlib.Omega.{arith}
-use lib.ListN.{getD}
 use Rattle.machine.specs.Parcel.{jOf}
-use Rattle.machine.specs.State.{el}
 use Rattle.machine.specs.Act.{marksOf}
 use Rattle.machine.specs.Layout.{registersOf}
 use Rattle.access.proofs.Places.{el-at}
 use Rattle.vector.specs.Element.{testOf}
+use Rattle.vector.proofs.Loops.{vj}
 use Rattle.vector.proofs.Marks.{marks-turn, marks-fit}
+use Rattle.vector.proofs.Arms.{marking}
 use borrow.Author.Needs.{needs}
 use Rattle.vector.proofs.mark_where.Statement.{statement}
 use Rattle.vector.proofs.mark_where.Tie as tie
 
 abbrev Inv-loop : tie.InvT-loop
-Inv-loop r test x from n vm₀ e₀ vm e = (e ≤ n) × (vm ≡ marksOf (λ q. testOf test (el (registersOf r .v) (jOf x) q)) e)
+Inv-loop r test x from n vm₀ e₀ vm e = (e ≤ n) × (vm ≡ marksOf (λ q. testOf test (vj r x q)) e)
 
 abbrev μ-loop : tie.MeasureT-loop
 μ-loop r test x from n vm₀ e₀ vm e = n - e
@@ -29,14 +29,16 @@ add-vm c =
     let loop = c .before .before .before .loop in
     let v-j = c .before .before .before .before .before .before .v-j in
     let start = c .before .before .before .before .before .before .before .before in
-    omega (arith, marks-fit _ _ _ (c .mark-of .result) (omega arith) (loop .inv .1) (c .mark-of .ensures ∙ rw (v-j .ensures, el-at (start .args .r .now) (jOf (start .args .x)) (loop .e) (omega arith) (omega arith))))
+    let y = el-at (start .args .r .now) (jOf (start .args .x)) (loop .e) (omega arith) (omega arith) in
+    omega (arith, marks-fit _ _ _ (c .mark-of .result) (omega arith) (loop .inv .1) (c .mark-of .ensures ∙ rw (v-j .ensures, y)))
 
 loop-again : tie.Need-loop-again Inv-loop μ-loop
 loop-again c =
     let loop = c .before .before .before .loop in
     let v-j = c .before .before .before .before .before .before .v-j in
     let start = c .before .before .before .before .before .before .before .before in
-    (omega arith, marks-turn _ _ _ _ (loop .inv .1) (c .mark-of .ensures ∙ rw (v-j .ensures, el-at (start .args .r .now) (jOf (start .args .x)) (loop .e) (omega arith) (omega arith))))
+    let y = el-at (start .args .r .now) (jOf (start .args .x)) (loop .e) (omega arith) (omega arith) in
+    (omega arith, marks-turn _ _ _ _ (loop .inv .1) (c .mark-of .ensures ∙ rw (v-j .ensures, y)))
 
 set-control-requires : tie.Need-set-control-requires Inv-loop μ-loop
 set-control-requires c κs = (search needs, inr (inl refl))
@@ -46,7 +48,7 @@ returns c =
     let loop = c .before .before .before .before .before .loop in
     let start = c .before .before .before .before .before .before .before .before .before .before in
     let e : loop .e ≡ registersOf (start .args .r .now) .vl = omega arith in
-    (refl, rw (loop .inv .1, e) at (c .before .before .set-control .ensures))
+    marking _ _ _ (start .args .test) (start .pre .1) (rw (loop .inv .1, e) at (c .before .before .set-control .ensures))
 
 pub mark-where-spec : {M : Type 1} → statement M
 mark-where-spec =

@@ -3,14 +3,15 @@ use mathlib.Core.Path.{_≡_}
 use native.Mathlib.Omega.{arith}
 use Rattle.machine.specs.Layout.{registersOf}
 use Rattle.vector.proofs.Loops.{Doing, begins, ends}
-use Rattle.vector.proofs.Merges.{mergedOf, merging, shift-more, goes-one, goes-four, GoesOn}
+use Rattle.vector.proofs.Arms.{mergedOf, merging}
+use Rattle.vector.proofs.Merges.{shift-more, goes-one, goes-four, GoesOn}
 use borrow.Author.Needs.{needs}
 use Rattle.vector.proofs.merge_by.Statement.{statement}
 use Rattle.vector.proofs.merge_by.Tie as tie
 
 abbrev Inv-loop : tie.InvT-loop
 Inv-loop r₀ masks scalar x to s left right vm n fours bits₀ e₀ r bits e =
-    Doing x n (mergedOf scalar (registersOf r₀) x) r₀ r e × (bits ≡ registersOf r₀ .vm * 2 ^ e % 2 ^ 64) × (e ≤ fours) × (e % 4 ≡ 0)
+    Doing x n (mergedOf scalar r₀ x) r₀ r e × (bits ≡ registersOf r₀ .vm * 2 ^ e % 2 ^ 64) × (e ≤ fours) × (e % 4 ≡ 0)
 
 abbrev μ-loop : tie.MeasureT-loop
 μ-loop r₀ masks scalar x to s left right vm n fours bits₀ e₀ r bits e = fours - e
@@ -32,14 +33,14 @@ two-requires-2 c κs =
 loop-again : tie.Need-loop-again Inv-loop μ-loop Inv-loop2 μ-loop2
 loop-again c =
     let two = c .before .before .before .before .before .before .two in
-    let loop = c .before .before .before .before .before .before .before .before .before .loop in
-    let vl = c .before .before .before .before .before .before .before .before .before .before .vl in
-    let v-k = c .before .before .before .before .before .before .before .before .before .before .before .before .before .before .v-k in
-    let v-j = c .before .before .before .before .before .before .before .before .before .before .before .before .before .before .before .v-j in
-    let s-j = c .before .before .before .before .before .before .before .before .before .before .before .before .before .before .before .before .s-j in
-    let v-i = c .before .before .before .before .before .before .before .before .before .before .before .before .before .before .before .before .before .before .v-i in
-    let start = c .before .before .before .before .before .before .before .before .before .before .before .before .before .before .before .before .before .before .before .before in
-    (
+    let l = c .before .before .before .before .before .before .before .before .before in
+    let loop = l .loop in
+    let vl = l .before .vl in
+    let v-k = l .before .before .before .before .before .v-k in
+    let v-j = l .before .before .before .before .before .before .v-j in
+    let s-j = l .before .before .before .before .before .before .before .s-j in
+    let v-i = l .before .before .before .before .before .before .before .before .before .v-i in
+    let start = l .before .before .before .before .before .before .before .before .before .before .before in (
       goes-four (start .args .scalar) (start .args .x) (vl .result) (s-j .result) _ (s-j .ensures) (omega arith) (loop .e) (loop .bits)
           (v-j .result + loop .e) (v-k .result + loop .e) (v-i .result + loop .e) _ _ _ (loop .inv .0) (omega arith) (loop .inv .1) (omega arith)
           (two .ensures) (c .before .before .two2 .ensures),
@@ -53,17 +54,20 @@ loop2-holds c = record { within = c .before .loop .inv .0 .within; long = c .bef
 
 loop2-again : tie.Need-loop2-again Inv-loop μ-loop Inv-loop2 μ-loop2
 loop2-again c =
-    let loop2 = c .before .before .before .before .before .loop2 in
-    let vl = c .before .before .before .before .before .before .before .before .vl in
-    let v-k = c .before .before .before .before .before .before .before .before .before .before .before .before .v-k in
-    let v-j = c .before .before .before .before .before .before .before .before .before .before .before .before .before .v-j in
-    let s-j = c .before .before .before .before .before .before .before .before .before .before .before .before .before .before .s-j in
-    let start = c .before .before .before .before .before .before .before .before .before .before .before .before .before .before .before .before .before .before in
+    let l = c .before .before .before .before .before in
+    let loop2 = l .loop2 in
+    let vl = l .before .before .before .vl in
+    let v-k = l .before .before .before .before .before .before .before .v-k in
+    let v-j = l .before .before .before .before .before .before .before .before .v-j in
+    let s-j = l .before .before .before .before .before .before .before .before .before .s-j in
+    let start = l .before .before .before .before .before .before .before .before .before .before .before .before .before in
     record {
       within = omega arith;
       long = search needs;
-      on = λ w a b d. goes-one (start .args .scalar) (start .args .x) (vl .result) (s-j .result) w a (omega arith) (loop2 .e)
-          (v-j .result + loop2 .e) (v-k .result + loop2 .e) _ _ _ _ (loop2 .inv .on w a b d) (omega arith) (omega arith) (c .before .before .left-of .ensures) (rw (← b) (c .chosen .ensures));
+      on = λ w a b d.
+          goes-one (start .args .scalar) (start .args .x) (vl .result) (s-j .result) w a (omega arith) (loop2 .e)
+          (v-j .result + loop2 .e) (v-k .result + loop2 .e) _ _ _ _ (loop2 .inv .on w a b d) (omega arith) (omega arith)
+          (c .before .before .left-of .ensures) (rw (← b) (c .chosen .ensures));
     }
 
 returns : tie.Need-returns Inv-loop μ-loop Inv-loop2 μ-loop2
@@ -72,7 +76,7 @@ returns c =
     let vm = c .before .before .before .before .before .before .vm in
     let s-j = c .before .before .before .before .before .before .before .before .before .before .s-j in
     let start = c .before .before .before .before .before .before .before .before .before .before .before .before .before .before in
-    merging (start .args .scalar) _ _ _ (start .pre .2) (ends (c .before .loop2 .inv .on _ (s-j .ensures) (vm .ensures) (loop .inv .0)) (omega arith))
+    merging _ _ _ (start .args .scalar) (start .pre .2) (ends (c .before .loop2 .inv .on _ (s-j .ensures) (vm .ensures) (loop .inv .0)) (omega arith))
 
 pub merge-by-spec : {M : Type 1} → statement M
 merge-by-spec =

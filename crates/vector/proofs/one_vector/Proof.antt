@@ -1,20 +1,20 @@
 use Prim.Native.Nat.{_+_, _-_}
-use mathlib.Core.Path.{refl}
 use native.Mathlib.Omega.{arith}
-use Rattle.machine.specs.Parcel.{jOf}
-use Rattle.machine.specs.State.{el}
+use Rattle.machine.specs.Parcel.{jOf, kOf}
+use Rattle.machine.specs.State.{ak}
 use Rattle.machine.specs.Layout.{registersOf}
 use Rattle.vector.specs.Element.{oneOf}
-use Rattle.vector.proofs.Loops.{Doing, begins, reads, goes, ends}
+use Rattle.vector.proofs.Loops.{vj, Doing, begins, reads, goes, ends}
+use Rattle.vector.proofs.Arms.{of-vj}
 use borrow.Author.Needs.{needs}
 use Rattle.vector.proofs.one_vector.Statement.{statement}
 use Rattle.vector.proofs.one_vector.Tie as tie
 
 abbrev Inv-loop : tie.InvT-loop
-Inv-loop r₀ op count x to from n e₀ r e = Doing x n (λ q. oneOf op (el (registersOf r₀ .v) (jOf x) q) count) r₀ r e
+Inv-loop r₀ op x to from count n e₀ r e = Doing x n (λ q. oneOf op (vj r₀ x q) (ak (registersOf r₀) (kOf x))) r₀ r e
 
 abbrev μ-loop : tie.MeasureT-loop
-μ-loop r₀ op count x to from n e₀ r e = n - e
+μ-loop r₀ op x to from count n e₀ r e = n - e
 
 loop-holds : tie.Need-loop-holds Inv-loop μ-loop
 loop-holds c = begins _ _ _ _ (search needs)
@@ -22,16 +22,18 @@ loop-holds c = begins _ _ _ _ (search needs)
 loop-again : tie.Need-loop-again Inv-loop μ-loop
 loop-again c =
     let loop = c .before .before .before .loop in
-    let v-j = c .before .before .before .before .before .before .v-j in
-    let start = c .before .before .before .before .before .before .before .before .before in
+    let v-j = c .before .before .before .before .before .before .before .before .v-j in
+    let start = c .before .before .before .before .before .before .before .before .before .before .before in
     goes (loop .inv) _ _ (omega arith) (cc (reads (loop .inv) (jOf (start .args .x)) (loop .e) (v-j .result + loop .e) (omega arith)))
 
 returns : tie.Need-returns Inv-loop μ-loop
-returns c = (refl, ends (c .before .loop .inv) (omega arith))
+returns c =
+    let start = c .before .before .before .before .before .before .before .before .before in
+    of-vj _ _ _ (start .args .op) (start .pre .1) (ends (c .before .loop .inv) (omega arith))
 
 pub one-vector-spec : {M : Type 1} → statement M
 one-vector-spec =
     tie.close (tie.spec Inv-loop μ-loop (λ c κs. search needs) (λ c κs. search needs) (λ c κs. search needs)
-    loop-holds (λ c. search needs) (λ c. search needs) (λ c. search needs) (λ c κs. search needs) (λ c. search needs)
-    (λ c. search needs) (λ c. search needs) (λ c. search needs) (λ c. search needs) loop-again (λ c. search needs)
-    returns)
+    (λ c κs. search needs) loop-holds (λ c. search needs) (λ c. search needs) (λ c. search needs)
+    (λ c κs. search needs) (λ c. search needs) (λ c. search needs) (λ c. search needs) (λ c. search needs)
+    (λ c. search needs) loop-again (λ c. search needs) returns)

@@ -1,17 +1,17 @@
 use Prim.Native.Nat.{_+_, _-_}
 use native.Mathlib.Omega.{arith}
 use Rattle.machine.specs.Parcel.{jOf, kOf}
-use Rattle.machine.specs.State.{sj, el}
+use Rattle.machine.specs.State.{sj}
 use Rattle.machine.specs.Layout.{registersOf}
 use Rattle.vector.specs.Element.{twoOf}
-use Rattle.vector.proofs.Loops.{Doing, begins, reads, goes, ends}
+use Rattle.vector.proofs.Loops.{vk, Doing, begins, reads, goes, ends}
 use Rattle.vector.proofs.Arms.{with-sj}
 use borrow.Author.Needs.{needs}
 use Rattle.vector.proofs.with.Statement.{statement}
 use Rattle.vector.proofs.with.Tie as tie
 
 abbrev Inv-loop : tie.InvT-loop
-Inv-loop r₀ op x n to left right e₀ r e = Doing x n (λ q. twoOf op (sj (registersOf r₀) (jOf x)) (el (registersOf r₀ .v) (kOf x) q)) r₀ r e
+Inv-loop r₀ op x n to left right e₀ r e = Doing x n (λ q. twoOf op (sj (registersOf r₀) (jOf x)) (vk r₀ x q)) r₀ r e
 
 abbrev μ-loop : tie.MeasureT-loop
 μ-loop r₀ op x n to left right e₀ r e = n - e
