@@ -36,16 +36,20 @@ abbrev pub modesOf : Registers → Frame → ℕ
 modesOf r fr = fr .mm % 2 + r .ior % 2 * 2 + fr .ifp % 2 * 4 + fr .fps % 2 * 8 + r .bdm % 2 * 16
 
 -- `p=`, `xa=`, `vl=`, `modes=`
-unfoldable pub controlLines : ℕ → ℕ → ℕ → ℕ → List ℕ
-controlLines p xa vl modes = hexLine nameP 6 p ++ hexLine nameXA 2 xa ++ decimalLine nameVL vl ++ hexLine nameModes 2 modes
+unfoldable pub controlLines : State → List ℕ
+controlLines st =
+    hexLine nameP 6 (st .p .0)
+    ++ hexLine nameXA 2 (st .registers .xa)
+    ++ decimalLine nameVL (st .registers .vl)
+    ++ hexLine nameModes 2 (modesOf (st .registers) (st .frame))
 
 -- `iba=`, `ila=`, `dba=`, `dla=`
-unfoldable pub fieldLines : ℕ → ℕ → ℕ → ℕ → List ℕ
-fieldLines iba ila dba dla = hexLine nameIBA 5 iba ++ hexLine nameILA 5 ila ++ hexLine nameDBA 5 dba ++ hexLine nameDLA 5 dla
+unfoldable pub fieldLines : Frame → List ℕ
+fieldLines fr = hexLine nameIBA 5 (fr .iba) ++ hexLine nameILA 5 (fr .ila) ++ hexLine nameDBA 5 (fr .dba) ++ hexLine nameDLA 5 (fr .dla)
 
 -- `ps=`, `cln=`
-unfoldable pub programLines : ℕ → ℕ → List ℕ
-programLines ps cln = hexLine namePS 1 ps ++ hexLine nameCLN 1 cln
+unfoldable pub programLines : Frame → List ℕ
+programLines fr = hexLine namePS 1 (fr .ps) ++ hexLine nameCLN 1 (fr .cln)
 
 -- numbers in hex with commas between them
 unfoldable pub afterCommas : ℕ → List ℕ → List ℕ
@@ -57,18 +61,12 @@ commas least [] = []
 commas least (n ∷ ns) = shown 16 least n ++ afterCommas least ns
 
 -- `a=`, `s=`
-unfoldable pub registerLines : List ℕ → List ℕ → List ℕ
-registerLines a s = lineOf nameA (commas 6 a) ++ lineOf nameS (commas 1 s)
+unfoldable pub registerLines : Registers → List ℕ
+registerLines r = lineOf nameA (commas 6 (r .a)) ++ lineOf nameS (commas 1 (r .s))
 
 -- the processor
 unfoldable pub stateLines : State → List ℕ
-stateLines st =
-    let r = st .registers in
-    let fr = st .frame in
-    controlLines (st .p .0) (r .xa) (r .vl) (modesOf r fr)
-    ++ fieldLines (fr .iba) (fr .ila) (fr .dba) (fr .dla)
-    ++ programLines (fr .ps) (fr .cln)
-    ++ registerLines (r .a) (r .s)
+stateLines st = controlLines st ++ fieldLines (st .frame) ++ programLines (st .frame) ++ registerLines (st .registers)
 
 -- the words compared: as many as both memories have, which no machine has more of than 4,194,304
 abbrev pub smaller : ℕ → ℕ → ℕ

@@ -422,46 +422,6 @@ fn put_stop(out: &mut [u8], ending: Ending) -> usize
     }
 }
 
-// P, XA, VL and the modes.
-fn put_control(out: &mut [u8], at: usize, p: u64, xa: u64, vl: u64, modes: u64) -> usize
-    requires { ⌜ at ≤ 10000 ⌝ }
-    ensures { λ r. ⌜ Wrote (now (out .entry)) at (controlLines p xa vl modes) (now (out .exit)) r × (r ≤ at + 1000) ⌝ }
-{
-    let second = put_line(out, at, b"p=", p, 16, 6);
-    let third = put_line(out, second, b"xa=", xa, 16, 2);
-    let fourth = put_line(out, third, b"vl=", vl, 10, 1);
-    put_line(out, fourth, b"modes=", modes, 16, 2)
-}
-
-// The two fields.
-fn put_fields(out: &mut [u8], at: usize, iba: u64, ila: u64, dba: u64, dla: u64) -> usize
-    requires { ⌜ at ≤ 10000 ⌝ }
-    ensures { λ r. ⌜ Wrote (now (out .entry)) at (fieldLines iba ila dba dla) (now (out .exit)) r × (r ≤ at + 1000) ⌝ }
-{
-    let second = put_line(out, at, b"iba=", iba, 16, 5);
-    let third = put_line(out, second, b"ila=", ila, 16, 5);
-    let fourth = put_line(out, third, b"dba=", dba, 16, 5);
-    put_line(out, fourth, b"dla=", dla, 16, 5)
-}
-
-// The program state and the cluster.
-fn put_program(out: &mut [u8], at: usize, ps: u64, cln: u64) -> usize
-    requires { ⌜ at ≤ 10000 ⌝ }
-    ensures { λ r. ⌜ Wrote (now (out .entry)) at (programLines ps cln) (now (out .exit)) r × (r ≤ at + 1000) ⌝ }
-{
-    let second = put_line(out, at, b"ps=", ps, 16, 1);
-    put_line(out, second, b"cln=", cln, 16, 1)
-}
-
-// The A and S registers.
-fn put_registers(out: &mut [u8], at: usize, r: &[u64]) -> usize
-    requires { ⌜ (at ≤ 10000) × (length (now r) ≡ 672) ⌝ }
-    ensures { λ q. ⌜ Wrote (now (out .entry)) at (registerLines (registersOf (now (r .entry)) .a) (registersOf (now (r .entry)) .s)) (now (out .exit)) q × (q ≤ at + 2000) ⌝ }
-{
-    let second = put_eight(out, at, b"a=", &r[access::A..access::S], 6);
-    put_eight(out, second, b"s=", &r[access::S..access::B], 1)
-}
-
 // MM, IOR, IFP, FPS and BDM in one number.
 fn modes(r: &[u64]) -> u64
     requires { ⌜ length (now r) ≡ 672 ⌝ }
@@ -471,14 +431,54 @@ fn modes(r: &[u64]) -> u64
     low + r[access::FPS] % 2 * 8 + r[access::BDM] % 2 * 16
 }
 
+// P, XA, VL and the modes.
+fn put_control(out: &mut [u8], at: usize, r: &[u64]) -> usize
+    requires { ⌜ (at ≤ 10000) × (length (now r) ≡ 672) ⌝ }
+    ensures { λ q. ⌜ Wrote (now (out .entry)) at (controlLines (stateOf (now (r .entry)))) (now (out .exit)) q × (q ≤ at + 1000) ⌝ }
+{
+    let second = put_line(out, at, b"p=", r[access::P], 16, 6);
+    let third = put_line(out, second, b"xa=", r[access::XA], 16, 2);
+    let fourth = put_line(out, third, b"vl=", r[access::VL], 10, 1);
+    put_line(out, fourth, b"modes=", modes(r), 16, 2)
+}
+
+// The two fields.
+fn put_fields(out: &mut [u8], at: usize, r: &[u64]) -> usize
+    requires { ⌜ (at ≤ 10000) × (length (now r) ≡ 672) ⌝ }
+    ensures { λ q. ⌜ Wrote (now (out .entry)) at (fieldLines (frameOf (now (r .entry)))) (now (out .exit)) q × (q ≤ at + 1000) ⌝ }
+{
+    let second = put_line(out, at, b"iba=", r[access::IBA], 16, 5);
+    let third = put_line(out, second, b"ila=", r[access::ILA], 16, 5);
+    let fourth = put_line(out, third, b"dba=", r[access::DBA], 16, 5);
+    put_line(out, fourth, b"dla=", r[access::DLA], 16, 5)
+}
+
+// The program state and the cluster.
+fn put_program(out: &mut [u8], at: usize, r: &[u64]) -> usize
+    requires { ⌜ (at ≤ 10000) × (length (now r) ≡ 672) ⌝ }
+    ensures { λ q. ⌜ Wrote (now (out .entry)) at (programLines (frameOf (now (r .entry)))) (now (out .exit)) q × (q ≤ at + 1000) ⌝ }
+{
+    let second = put_line(out, at, b"ps=", r[access::PS], 16, 1);
+    put_line(out, second, b"cln=", r[access::CLN], 16, 1)
+}
+
+// The A and S registers.
+fn put_registers(out: &mut [u8], at: usize, r: &[u64]) -> usize
+    requires { ⌜ (at ≤ 10000) × (length (now r) ≡ 672) ⌝ }
+    ensures { λ q. ⌜ Wrote (now (out .entry)) at (registerLines (registersOf (now (r .entry)))) (now (out .exit)) q × (q ≤ at + 2000) ⌝ }
+{
+    let second = put_eight(out, at, b"a=", &r[access::A..access::S], 6);
+    put_eight(out, second, b"s=", &r[access::S..access::B], 1)
+}
+
 // The processor.
 fn put_state(out: &mut [u8], at: usize, r: &[u64]) -> usize
     requires { ⌜ (at ≤ 1000) × (length (now r) ≡ 672) ⌝ }
     ensures { λ q. ⌜ Wrote (now (out .entry)) at (stateLines (stateOf (now (r .entry)))) (now (out .exit)) q × (q ≤ at + 5000) ⌝ }
 {
-    let second = put_control(out, at, r[access::P], r[access::XA], r[access::VL], modes(r));
-    let third = put_fields(out, second, r[access::IBA], r[access::ILA], r[access::DBA], r[access::DLA]);
-    let fourth = put_program(out, third, r[access::PS], r[access::CLN]);
+    let second = put_control(out, at, r);
+    let third = put_fields(out, second, r);
+    let fourth = put_program(out, third, r);
     put_registers(out, fourth, r)
 }
 
