@@ -9,8 +9,7 @@ use lib.ListN.{length, getD, drop, replicate, length-drop}
 use lib.Seq.{sets, drop-drop, getD-drop}
 use lib.Dec.{eqb, ltb, leb}
 use borrow.Author.Tests.{eqb-true, eqb-false, ltb-true, ltb-false, leb-true, leb-false}
-use Rattle.machine.specs.State.{bit}
-use Rattle.machine.specs.Word.{pick}
+use Rattle.machine.specs.Word.{pick, bit}
 use Rattle.spelling.specs.Spelling.{second}
 use Rattle.spelling.specs.Listing.{dataLine, lineOf, listed}
 use Rattle.spelling.specs.Candidate.{Guess, one, guessBy, guessOf, packed}

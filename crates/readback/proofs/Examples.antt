@@ -4,7 +4,7 @@ use Prim.Native.String.{String}
 use mathlib.Core.Path.{_≡_, refl}
 use mathlib.Core.Bool.{Bool, true, false, not, _&&_}
 use mathlib.Core.List.{List, [], _∷_, _++_}
-use Rattle.machine.specs.State.{bit}
+use Rattle.machine.specs.Word.{bit}
 use Rattle.machine.specs.Codes.{Code, None, One, Two, codeOf, code001, code002}
 use Rattle.text.specs.Digits.{digits, shown, placesOf, widthOf, glyphOf}
 use Rattle.spelling.specs.Words.{signs, operandOf, operandText, textOf}

@@ -9,7 +9,7 @@ use lib.Dec.{eqb, ltb, leb}
 use borrow.Author.Tests.{eqb-true, ltb-true, leb-false}
 use Rattle.machine.specs.Word.{pick}
 use Rattle.machine.specs.Parcel.{iOf, jOf, kOf}
-use Rattle.machine.specs.Codes.{Code, None, rows, every as each, codeOf, code001, code002}
+use Rattle.machine.specs.Codes.{Code, nth, rows, codeOf, code001, code002}
 use Rattle.spelling.specs.Spelling.{passing, spelling, heldAs, wordsOfCode, hasSecond, wordsOf, second}
 use Rattle.spelling.specs.Rows.{rowWords, rowOf, rowBy, within, row001, row0014, row002, row023, secondRow}
 use Rattle.spelling.proofs.Entries.{both-hold, every, every-at}
@@ -48,8 +48,7 @@ alike-eq false false e = refl
 
 -- the code by its digits
 abbrev codeBy : ℕ → ℕ → ℕ → ℕ → Code
-codeBy c i j k =
-    heldAs (getD (rows false i j k) (c / 8) (each None) (c % 8)) (getD (rows true i j k) (c / 8) (each None) (c % 8))
+codeBy c i j k = heldAs (nth (getD (rows false i j k) (c / 8) []) (c % 8)) (nth (getD (rows true i j k) (c / 8) []) (c % 8))
 
 -- the row found is right, of a parcel x with these digits
 right : ℕ → ℕ → ℕ → ℕ → ℕ → Bool

@@ -7,8 +7,7 @@ use mathlib.Core.Bool.{Bool, true, false, _&&_, _||_}
 use mathlib.Core.List.{List, [], _∷_}
 use lib.ListN.{getD}
 use lib.Dec.{eqb, ltb, leb}
-use Rattle.machine.specs.State.{bit}
-use Rattle.machine.specs.Word.{pick}
+use Rattle.machine.specs.Word.{pick, bit}
 use Rattle.spelling.specs.Words.{signs}
 use Rattle.spelling.specs.Rows.{samples, rowWords, table}
 

@@ -3,13 +3,12 @@
 use mathlib.Core.Path.{_≡_, refl}
 use mathlib.Core.List.{List, [], _∷_, _++_}
 use Prim.Native.Nat.{ℕ}
-use Rattle.machine.specs.declared.State.{State}
-use Rattle.machine.specs.declared.Answer.the-variants.{Stepped}
-use Rattle.machine.specs.Work.{parcel}
+use Rattle.machine.specs.declared.Ending.the-variants.{Budget}
+use Rattle.machine.specs.State.{State, addr}
 use Rattle.machine.specs.Run.{zeros}
 use Rattle.text.specs.Names.{nameSteps, nameChanged}
 use Rattle.text.specs.Digits.{isDecimal, isLetter, isHex, hexOf, allHex, hexFrom, glyphOf, digits, placesOf, widthOf, shown}
-use Rattle.text.specs.Sheet.{startsAt, endsAt, decimalFrom, numberAt, upTo, headAt, framed, wordLine, badLine, afterWords, afterSteps, checkOf, answerOf, sheetOf}
+use Rattle.text.specs.Sheet.{startsAt, endsAt, decimalFrom, numberAt, upTo, headAt, framed, wordLine, badLine, afterWords, afterSteps, checkOf, sheetFrom, sheetOf}
 use Rattle.text.specs.Report.{afterCommas, commas, decimalLine, stopLine, controlLines, fieldLines, programLines, registerLines, stateLines, change, changeText}
 use Rattle.text.specs.declared.Sheet.the-variants.{Good, Bad}
 
@@ -33,16 +32,16 @@ sheet d =
     ∷ []
 
 says-4 : sheetOf (sheet 52) ≡ Good 4
-unfolding isDecimal isLetter isHex hexOf allHex hexFrom startsAt endsAt decimalFrom numberAt upTo headAt framed wordLine badLine afterWords afterSteps checkOf answerOf sheetOf
+unfolding isDecimal isLetter isHex hexOf allHex hexFrom startsAt endsAt decimalFrom numberAt upTo headAt framed wordLine badLine afterWords afterSteps checkOf sheetFrom sheetOf
 says-4 = refl
 
 bad-line-5 : sheetOf (sheet 50) ≡ Bad 5
-unfolding isDecimal isLetter isHex hexOf allHex hexFrom startsAt endsAt decimalFrom numberAt upTo headAt framed wordLine badLine afterWords afterSteps checkOf answerOf sheetOf
+unfolding isDecimal isLetter isHex hexOf allHex hexFrom startsAt endsAt decimalFrom numberAt upTo headAt framed wordLine badLine afterWords afterSteps checkOf sheetFrom sheetOf
 bad-line-5 = refl
 
 abbrev end : State
 end = record {
-  p = parcel 5;
+  p = addr 5;
   registers = record {
     a = 0 ∷ 5 ∷ 7 ∷ 12 ∷ 0 ∷ 0 ∷ 0 ∷ 0 ∷ [];
     s = zeros 8;
@@ -90,7 +89,7 @@ printed =
     ∷ 115 ∷ 61 ∷ 48 ∷ 44 ∷ 48 ∷ 44 ∷ 48 ∷ 44 ∷ 48 ∷ 44 ∷ 48 ∷ 44 ∷ 48 ∷ 44 ∷ 48 ∷ 44 ∷ 48 ∷ 10
     ∷ []
 
-reported : stopLine Stepped ++ decimalLine nameSteps 4 ++ stateLines (end .p .0) (end .registers) (end .frame) ≡ printed
+reported : stopLine Budget ++ decimalLine nameSteps 4 ++ stateLines end ≡ printed
 unfolding glyphOf digits placesOf widthOf shown afterCommas commas stopLine controlLines fieldLines programLines registerLines stateLines zeros
 reported = refl
 

@@ -74,9 +74,13 @@ stopNotHeld = 115 ∷ 116 ∷ 111 ∷ 112 ∷ 61 ∷ 110 ∷ 111 ∷ 116 ∷ 45 
 abbrev pub stopMonitorFetch : List ℕ
 stopMonitorFetch = 115 ∷ 116 ∷ 111 ∷ 112 ∷ 61 ∷ 109 ∷ 111 ∷ 110 ∷ 105 ∷ 116 ∷ 111 ∷ 114 ∷ 45 ∷ 102 ∷ 101 ∷ 116 ∷ 99 ∷ 104 ∷ 10 ∷ []
 
--- `refused=8`, a newline, `line=`
+-- `refused=`
 abbrev pub nameRefused : List ℕ
-nameRefused = 114 ∷ 101 ∷ 102 ∷ 117 ∷ 115 ∷ 101 ∷ 100 ∷ 61 ∷ 56 ∷ 10 ∷ 108 ∷ 105 ∷ 110 ∷ 101 ∷ 61 ∷ []
+nameRefused = 114 ∷ 101 ∷ 102 ∷ 117 ∷ 115 ∷ 101 ∷ 100 ∷ 61 ∷ []
+
+-- `line=`
+abbrev pub nameLine : List ℕ
+nameLine = 108 ∷ 105 ∷ 110 ∷ 101 ∷ 61 ∷ []
 
 -- `=`, a comma, a newline
 abbrev pub equals : ℕ

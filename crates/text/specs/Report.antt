@@ -5,14 +5,13 @@ use mathlib.Core.Path.{_≡_}
 use lib.ListN.{length, getD}
 use lib.Seq.{sets}
 use lib.Dec.{eqb, ltb}
+use Rattle.machine.specs.declared.Ending.{Ending}
+use Rattle.machine.specs.declared.Ending.the-variants.{Budget, NotHeld, MonitorFetch, Refused}
 use Rattle.machine.specs.Word.{pick}
-use Rattle.machine.specs.declared.Frame.{Frame}
-use Rattle.machine.specs.declared.Registers.{Registers}
-use Rattle.machine.specs.declared.State.{State}
-use Rattle.machine.specs.declared.Answer.{Answer}
-use Rattle.machine.specs.declared.Answer.the-variants.{Stepped, Exchanged, NotHeld, MonitorFetch}
-use Rattle.text.specs.Names.{nameSteps, nameP, nameXA, nameVL, nameModes, nameIBA, nameILA, nameDBA, nameDLA, namePS, nameCLN, nameA, nameS, nameChanged, stopBudget, stopNotHeld, stopMonitorFetch, nameRefused, equals, comma, newline}
+use Rattle.machine.specs.State.{Registers, Frame, State}
+use Rattle.text.specs.Names.{nameSteps, nameP, nameXA, nameVL, nameModes, nameIBA, nameILA, nameDBA, nameDLA, namePS, nameCLN, nameA, nameS, nameChanged, stopBudget, stopNotHeld, stopMonitorFetch, nameRefused, nameLine, equals, comma, newline}
 use Rattle.text.specs.Digits.{shown}
+use Rattle.text.specs.Sheet.{sheetRefusal}
 
 -- a line: a name, what it is, a newline
 abbrev pub lineOf : List ℕ → List ℕ → List ℕ
@@ -25,28 +24,32 @@ decimalLine name n = lineOf name (shown 10 1 n)
 abbrev pub hexLine : List ℕ → ℕ → ℕ → List ℕ
 hexLine name least n = lineOf name (shown 16 least n)
 
--- `stop=`: after a step that stepped or exchanged, a run goes on until its budget is spent
-unfoldable pub stopLine : Answer → List ℕ
-stopLine Stepped = stopBudget
-stopLine (Exchanged flags) = stopBudget
+-- `stop=`; no run that is reported was refused
+unfoldable pub stopLine : Ending → List ℕ
+stopLine Budget = stopBudget
 stopLine (NotHeld p) = stopNotHeld
 stopLine (MonitorFetch p) = stopMonitorFetch
+stopLine (Refused n) = stopBudget
 
 -- MM as 1, IOR 2, IFP 4, FPS 8, BDM 10 in hex
 abbrev pub modesOf : Registers → Frame → ℕ
 modesOf r fr = fr .mm % 2 + r .ior % 2 * 2 + fr .ifp % 2 * 4 + fr .fps % 2 * 8 + r .bdm % 2 * 16
 
 -- `p=`, `xa=`, `vl=`, `modes=`
-unfoldable pub controlLines : ℕ → ℕ → ℕ → ℕ → List ℕ
-controlLines p xa vl modes = hexLine nameP 6 p ++ hexLine nameXA 2 xa ++ decimalLine nameVL vl ++ hexLine nameModes 2 modes
+unfoldable pub controlLines : State → List ℕ
+controlLines st =
+    hexLine nameP 6 (st .p .0)
+    ++ hexLine nameXA 2 (st .registers .xa)
+    ++ decimalLine nameVL (st .registers .vl)
+    ++ hexLine nameModes 2 (modesOf (st .registers) (st .frame))
 
 -- `iba=`, `ila=`, `dba=`, `dla=`
-unfoldable pub fieldLines : ℕ → ℕ → ℕ → ℕ → List ℕ
-fieldLines iba ila dba dla = hexLine nameIBA 5 iba ++ hexLine nameILA 5 ila ++ hexLine nameDBA 5 dba ++ hexLine nameDLA 5 dla
+unfoldable pub fieldLines : Frame → List ℕ
+fieldLines fr = hexLine nameIBA 5 (fr .iba) ++ hexLine nameILA 5 (fr .ila) ++ hexLine nameDBA 5 (fr .dba) ++ hexLine nameDLA 5 (fr .dla)
 
 -- `ps=`, `cln=`
-unfoldable pub programLines : ℕ → ℕ → List ℕ
-programLines ps cln = hexLine namePS 1 ps ++ hexLine nameCLN 1 cln
+unfoldable pub programLines : Frame → List ℕ
+programLines fr = hexLine namePS 1 (fr .ps) ++ hexLine nameCLN 1 (fr .cln)
 
 -- numbers in hex with commas between them
 unfoldable pub afterCommas : ℕ → List ℕ → List ℕ
@@ -58,16 +61,12 @@ commas least [] = []
 commas least (n ∷ ns) = shown 16 least n ++ afterCommas least ns
 
 -- `a=`, `s=`
-unfoldable pub registerLines : List ℕ → List ℕ → List ℕ
-registerLines a s = lineOf nameA (commas 6 a) ++ lineOf nameS (commas 1 s)
+unfoldable pub registerLines : Registers → List ℕ
+registerLines r = lineOf nameA (commas 6 (r .a)) ++ lineOf nameS (commas 1 (r .s))
 
 -- the processor
-unfoldable pub stateLines : ℕ → Registers → Frame → List ℕ
-stateLines p r fr =
-    controlLines p (r .xa) (r .vl) (modesOf r fr)
-    ++ fieldLines (fr .iba) (fr .ila) (fr .dba) (fr .dla)
-    ++ programLines (fr .ps) (fr .cln)
-    ++ registerLines (r .a) (r .s)
+unfoldable pub stateLines : State → List ℕ
+stateLines st = controlLines st ++ fieldLines (st .frame) ++ programLines (st .frame) ++ registerLines (st .registers)
 
 -- the words compared: as many as both memories have, which no machine has more of than 4,194,304
 abbrev pub smaller : ℕ → ℕ → ℕ
@@ -97,17 +96,17 @@ unfoldable pub changedLines : List ℕ → List ℕ → List ℕ
 changedLines before after =
     decimalLine nameChanged (changes (comparedOf before after) 0 before after) ++ changedWords (comparedOf before after) 0 before after
 
--- the report of a run: its last answer, its steps, the processor at its end, and memory before and after it
-unfoldable pub reportOf : Answer → ℕ → State → List ℕ → List ℕ → List ℕ
-reportOf last steps st before after =
-    stopLine last
+-- the report of a run: how it ended, its steps, the processor at its end, and memory before and after it
+unfoldable pub reportOf : Ending → ℕ → State → List ℕ → List ℕ → List ℕ
+reportOf ending steps st before after =
+    stopLine ending
     ++ decimalLine nameSteps steps
-    ++ stateLines (st .p .0) (st .registers) (st .frame)
+    ++ stateLines st
     ++ changedLines before after
 
 -- a bad sheet prints only `refused=8` and `line=`
 unfoldable pub refusedOf : ℕ → List ℕ
-refusedOf line = decimalLine nameRefused line
+refusedOf line = decimalLine nameRefused sheetRefusal ++ decimalLine nameLine line
 
 -- a buffer after xs is written to it from `at` on, what does not fit being left out; r is the place after the whole of xs
 pub record Wrote (buffer : List ℕ) (at : ℕ) (xs after : List ℕ) (r : ℕ) : Type 0 where

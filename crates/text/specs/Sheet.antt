@@ -93,13 +93,21 @@ checkOf text =
     pick (ltb 24576 (length text)) (Failed 0)
     (afterSteps text (headAt text 0 nameSteps 1000000))
 
--- what is answered: the steps, or the line
-unfoldable pub answerOf : Checked → Sheet
-answerOf (Passed steps words at) = Good steps
-answerOf (Failed line) = Bad line
+-- what the sheet says: the steps, or the line
+unfoldable pub sheetFrom : Checked → Sheet
+sheetFrom (Passed steps words at) = Good steps
+sheetFrom (Failed line) = Bad line
 
 unfoldable pub sheetOf : List ℕ → Sheet
-sheetOf text = answerOf (checkOf text)
+sheetOf text = sheetFrom (checkOf text)
+
+-- the same in numbers: that of its refusal, 0 for none, then the steps or the line
+abbrev pub sheetRefusal : ℕ
+sheetRefusal = 8
+
+abbrev pub sheetNumbers : Sheet → List ℕ
+sheetNumbers (Good steps) = 0 ∷ steps ∷ []
+sheetNumbers (Bad line) = sheetRefusal ∷ line ∷ []
 
 -- memory after it: with the words of a good sheet, else as it was
 unfoldable pub loadedOf : List ℕ → List ℕ → Checked → List ℕ
@@ -109,7 +117,7 @@ loadedOf text mem (Failed line) = mem
 unfoldable pub memoryOf : List ℕ → List ℕ → List ℕ
 memoryOf text mem = loadedOf text mem (checkOf text)
 
--- how far a line's answer goes, for the sums of places --
+-- how far what a line says goes, for the sums of places --
 
 -- the number is at most `most`, and the next line starts at most at `limit`
 abbrev pub HeadFits : ℕ → ℕ → Head → Type 0
@@ -117,5 +125,10 @@ HeadFits most limit (Says v next) = (v ≤ most) × (next ≤ limit)
 HeadFits most limit Wrong = Unit
 
 abbrev pub CheckedFits : Checked → Type 0
-CheckedFits (Passed steps words at) = (at ≤ 64) × (words ≤ 1024)
+CheckedFits (Passed steps words at) = (at ≤ 64) × (words ≤ 1024) × (steps ≤ 1000000)
 CheckedFits (Failed line) = Unit
+
+-- what a good sheet asks for
+abbrev pub SheetFits : Sheet → Type 0
+SheetFits (Good steps) = steps ≤ 1000000
+SheetFits (Bad line) = Unit

@@ -3,13 +3,11 @@ ghost use mathlib.Core.Path.{_≡_};
 ghost use Prim.Native.Nat.{_+_, _*_, _≤_, _<_};
 ghost use lib.ListN.{length, set};
 ghost use lib.Seq.{sets};
+ghost use Rattle.machine.specs.Layout.{registersOf, frameOf, stateOf};
 ghost use Rattle.text.specs.Digits.{byteAt, isDecimal, isLetter, isHex, hexOf, hexFrom, glyphOf, digits, placesOf, shown};
-ghost use Rattle.text.specs.Sheet.{startsAt, endsAt, decimalFrom, numberAt, headAt, framed, badLine, stored, checkOf, sheetOf, memoryOf, HeadFits, CheckedFits};
-ghost use Rattle.text.specs.Report.{lineOf, commas, stopLine, controlLines, fieldLines, programLines, registerLines, stateLines, smaller, comparedOf, change, changes, changeText, changedWords, changedLines, reportOf, refusedOf, Wrote};
-use machine::Answer;
-use machine::Frame;
-use machine::Registers;
-use machine::State;
+ghost use Rattle.text.specs.Sheet.{startsAt, endsAt, decimalFrom, numberAt, headAt, framed, badLine, stored, checkOf, sheetOf, sheetNumbers, memoryOf, HeadFits, CheckedFits, SheetFits};
+ghost use Rattle.text.specs.Report.{lineOf, commas, stopLine, modesOf, controlLines, fieldLines, programLines, registerLines, stateLines, smaller, comparedOf, change, changes, changeText, changedWords, changedLines, reportOf, refusedOf, Wrote};
+use machine::Ending;
 
 // What a line of a name and a number says: the number, and where the next line starts; or the line is bad.
 enum Head {
@@ -286,9 +284,11 @@ fn store_words(text: &[u8], start: usize, count: usize, mem: &mut [u64])
 }
 
 // Reads a sheet into memory. A bad one leaves memory as it was.
-pub fn read(text: &[u8], mem: &mut [u64]) -> Sheet
+pub fn read(text: &[u8], mem: &mut [u64; 4096]) -> Sheet
     ensures { λ r. ⌜ r ≡ sheetOf (now (text .entry)) ⌝ }
     ensures { λ _. ⌜ now (mem .exit) ≡ memoryOf (now (text .entry)) (now (mem .entry)) ⌝ }
+    ensures { λ r. ⌜ sheetNumbers r ≡ sheetNumbers (sheetOf (now (text .entry))) ⌝ }
+    ensures { λ r. ⌜ SheetFits r ⌝ }
 {
     match check(text) {
         Checked::Passed { steps, words, at } => {
@@ -410,69 +410,75 @@ fn put_eight(out: &mut [u8], at: usize, name: &[u8], ns: &[u64], least: u64) -> 
     put_text(out, end, b"\n")
 }
 
-// How the run ended.
-fn put_stop(out: &mut [u8], last: Answer) -> usize
-    ensures { λ r. ⌜ Wrote (now (out .entry)) 0 (stopLine last) (now (out .exit)) r × (r ≤ 64) ⌝ }
+// How the run ended. No run that is reported was refused.
+fn put_stop(out: &mut [u8], ending: Ending) -> usize
+    ensures { λ r. ⌜ Wrote (now (out .entry)) 0 (stopLine ending) (now (out .exit)) r × (r ≤ 64) ⌝ }
 {
-    match last {
-        Answer::Stepped => put_text(out, 0, b"stop=budget\n"),
-        Answer::Exchanged(_) => put_text(out, 0, b"stop=budget\n"),
-        Answer::NotHeld(_) => put_text(out, 0, b"stop=not-held\n"),
-        Answer::MonitorFetch(_) => put_text(out, 0, b"stop=monitor-fetch\n"),
+    match ending {
+        Ending::Budget => put_text(out, 0, b"stop=budget\n"),
+        Ending::NotHeld(_) => put_text(out, 0, b"stop=not-held\n"),
+        Ending::MonitorFetch(_) => put_text(out, 0, b"stop=monitor-fetch\n"),
+        Ending::Refused(_) => put_text(out, 0, b"stop=budget\n"),
     }
 }
 
-// P, XA, VL and the modes.
-fn put_control(out: &mut [u8], at: usize, p: u64, xa: u64, vl: u64, modes: u64) -> usize
-    requires { ⌜ at ≤ 10000 ⌝ }
-    ensures { λ r. ⌜ Wrote (now (out .entry)) at (controlLines p xa vl modes) (now (out .exit)) r × (r ≤ at + 1000) ⌝ }
+// MM, IOR, IFP, FPS and BDM in one number.
+fn modes(r: &[u64]) -> u64
+    requires { ⌜ length (now r) ≡ 672 ⌝ }
+    ensures { λ n. ⌜ n ≡ modesOf (registersOf (now (r .entry))) (frameOf (now (r .entry))) ⌝ }
 {
-    let second = put_line(out, at, b"p=", p, 16, 6);
-    let third = put_line(out, second, b"xa=", xa, 16, 2);
-    let fourth = put_line(out, third, b"vl=", vl, 10, 1);
-    put_line(out, fourth, b"modes=", modes, 16, 2)
+    let low = r[access::MM] % 2 + r[access::IOR] % 2 * 2 + r[access::IFP] % 2 * 4;
+    low + r[access::FPS] % 2 * 8 + r[access::BDM] % 2 * 16
+}
+
+// P, XA, VL and the modes.
+fn put_control(out: &mut [u8], at: usize, r: &[u64]) -> usize
+    requires { ⌜ (at ≤ 10000) × (length (now r) ≡ 672) ⌝ }
+    ensures { λ q. ⌜ Wrote (now (out .entry)) at (controlLines (stateOf (now (r .entry)))) (now (out .exit)) q × (q ≤ at + 1000) ⌝ }
+{
+    let second = put_line(out, at, b"p=", r[access::P], 16, 6);
+    let third = put_line(out, second, b"xa=", r[access::XA], 16, 2);
+    let fourth = put_line(out, third, b"vl=", r[access::VL], 10, 1);
+    put_line(out, fourth, b"modes=", modes(r), 16, 2)
 }
 
 // The two fields.
-fn put_fields(out: &mut [u8], at: usize, iba: u64, ila: u64, dba: u64, dla: u64) -> usize
-    requires { ⌜ at ≤ 10000 ⌝ }
-    ensures { λ r. ⌜ Wrote (now (out .entry)) at (fieldLines iba ila dba dla) (now (out .exit)) r × (r ≤ at + 1000) ⌝ }
+fn put_fields(out: &mut [u8], at: usize, r: &[u64]) -> usize
+    requires { ⌜ (at ≤ 10000) × (length (now r) ≡ 672) ⌝ }
+    ensures { λ q. ⌜ Wrote (now (out .entry)) at (fieldLines (frameOf (now (r .entry)))) (now (out .exit)) q × (q ≤ at + 1000) ⌝ }
 {
-    let second = put_line(out, at, b"iba=", iba, 16, 5);
-    let third = put_line(out, second, b"ila=", ila, 16, 5);
-    let fourth = put_line(out, third, b"dba=", dba, 16, 5);
-    put_line(out, fourth, b"dla=", dla, 16, 5)
+    let second = put_line(out, at, b"iba=", r[access::IBA], 16, 5);
+    let third = put_line(out, second, b"ila=", r[access::ILA], 16, 5);
+    let fourth = put_line(out, third, b"dba=", r[access::DBA], 16, 5);
+    put_line(out, fourth, b"dla=", r[access::DLA], 16, 5)
 }
 
 // The program state and the cluster.
-fn put_program(out: &mut [u8], at: usize, ps: u64, cln: u64) -> usize
-    requires { ⌜ at ≤ 10000 ⌝ }
-    ensures { λ r. ⌜ Wrote (now (out .entry)) at (programLines ps cln) (now (out .exit)) r × (r ≤ at + 1000) ⌝ }
+fn put_program(out: &mut [u8], at: usize, r: &[u64]) -> usize
+    requires { ⌜ (at ≤ 10000) × (length (now r) ≡ 672) ⌝ }
+    ensures { λ q. ⌜ Wrote (now (out .entry)) at (programLines (frameOf (now (r .entry)))) (now (out .exit)) q × (q ≤ at + 1000) ⌝ }
 {
-    let second = put_line(out, at, b"ps=", ps, 16, 1);
-    put_line(out, second, b"cln=", cln, 16, 1)
+    let second = put_line(out, at, b"ps=", r[access::PS], 16, 1);
+    put_line(out, second, b"cln=", r[access::CLN], 16, 1)
 }
 
 // The A and S registers.
-fn put_registers(out: &mut [u8], at: usize, r: Registers) -> usize
-    requires { ⌜ at ≤ 10000 ⌝ }
-    ensures { λ q. ⌜ Wrote (now (out .entry)) at (registerLines (r .a) (r .s)) (now (out .exit)) q × (q ≤ at + 2000) ⌝ }
+fn put_registers(out: &mut [u8], at: usize, r: &[u64]) -> usize
+    requires { ⌜ (at ≤ 10000) × (length (now r) ≡ 672) ⌝ }
+    ensures { λ q. ⌜ Wrote (now (out .entry)) at (registerLines (registersOf (now (r .entry)))) (now (out .exit)) q × (q ≤ at + 2000) ⌝ }
 {
-    let a = r.a;
-    let s = r.s;
-    let second = put_eight(out, at, b"a=", &a, 6);
-    put_eight(out, second, b"s=", &s, 1)
+    let second = put_eight(out, at, b"a=", &r[access::A..access::S], 6);
+    put_eight(out, second, b"s=", &r[access::S..access::B], 1)
 }
 
 // The processor.
-fn put_state(out: &mut [u8], at: usize, p: u64, r: Registers, fr: Frame) -> usize
-    requires { ⌜ at ≤ 1000 ⌝ }
-    ensures { λ q. ⌜ Wrote (now (out .entry)) at (stateLines p r fr) (now (out .exit)) q × (q ≤ at + 5000) ⌝ }
+fn put_state(out: &mut [u8], at: usize, r: &[u64]) -> usize
+    requires { ⌜ (at ≤ 1000) × (length (now r) ≡ 672) ⌝ }
+    ensures { λ q. ⌜ Wrote (now (out .entry)) at (stateLines (stateOf (now (r .entry)))) (now (out .exit)) q × (q ≤ at + 5000) ⌝ }
 {
-    let modes = fr.mm % 2 + r.ior % 2 * 2 + fr.ifp % 2 * 4 + fr.fps % 2 * 8 + r.bdm % 2 * 16;
-    let second = put_control(out, at, p, r.xa, r.vl, modes);
-    let third = put_fields(out, second, fr.iba, fr.ila, fr.dba, fr.dla);
-    let fourth = put_program(out, third, fr.ps, fr.cln);
+    let second = put_control(out, at, r);
+    let third = put_fields(out, second, r);
+    let fourth = put_program(out, third, r);
     put_registers(out, fourth, r)
 }
 
@@ -549,31 +555,29 @@ fn put_changed(out: &mut [u8], at: usize, before: &[u64], after: &[u64]) -> usiz
     put_changes(out, words, before, after, n)
 }
 
-// Writes the report of a run at the start of out, as much of it as fits, and answers its whole length: the last answer, the
-// steps, the processor, and memory before and after.
+// Writes the report of a run at the start of out, as much of it as fits, and answers its whole length: how the run ended, its
+// steps, the processor's words, and memory before and after.
 pub fn report(
-    last: Answer,
+    ending: Ending,
     steps: u64,
-    st: State,
+    r: &[u64; 672],
     before: &[u64],
     after: &[u64],
     out: &mut [u8],
 ) -> usize
-    ensures { λ r. ⌜ Wrote (now (out .entry)) 0 (reportOf last steps st (now (before .entry)) (now (after .entry))) (now (out .exit)) r ⌝ }
-    ensures { λ r. ⌜ (length (now (before .entry)) ≤ 65536 → r ≤ 8192 + 22 * length (now (before .entry))) ⌝ }
+    ensures { λ n. ⌜ Wrote (now (out .entry)) 0 (reportOf ending steps (stateOf (now (r .entry))) (now (before .entry)) (now (after .entry))) (now (out .exit)) n ⌝ }
+    ensures { λ n. ⌜ (length (now (before .entry)) ≤ 65536 → n ≤ 8192 + 22 * length (now (before .entry))) ⌝ }
 {
-    let r = st.registers;
-    let fr = st.frame;
-    let p = st.p;
-    let second = put_stop(out, last);
+    let second = put_stop(out, ending);
     let third = put_line(out, second, b"steps=", steps, 10, 1);
-    let changed = put_state(out, third, p.0, r, fr);
+    let changed = put_state(out, third, r);
     put_changed(out, changed, before, after)
 }
 
 // The same of a bad sheet, by its line.
 pub fn refused(line: u64, out: &mut [u8]) -> usize
-    ensures { λ r. ⌜ Wrote (now (out .entry)) 0 (refusedOf line) (now (out .exit)) r × (r ≤ 136) ⌝ }
+    ensures { λ r. ⌜ Wrote (now (out .entry)) 0 (refusedOf line) (now (out .exit)) r × (r ≤ 272) ⌝ }
 {
-    put_line(out, 0, b"refused=8\nline=", line, 10, 1)
+    let second = put_line(out, 0, b"refused=", 8, 10, 1);
+    put_line(out, second, b"line=", line, 10, 1)
 }

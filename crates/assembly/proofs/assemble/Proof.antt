@@ -7,15 +7,6 @@ use borrow.Author.Needs.{needs}
 use Rattle.assembly.proofs.assemble.Statement.{statement}
 use Rattle.assembly.proofs.assemble.Tie as tie
 
-plan-table-requires : tie.Need-plan-table-requires
-plan-table-requires c κs = search needs
-
-look-through-requires : tie.Need-look-through-requires
-look-through-requires c κs = search needs
-
-enum-known-lines : tie.Need-enum-known-lines
-enum-known-lines c = search needs
-
 add-t10 : tie.Need-add-t10
 add-t10 c =
     let k =
@@ -23,9 +14,6 @@ add-t10 c =
     (c .before .before .before .look-through .ensures) in
     let l = k .1 in
     omega (arith, l)
-
-enum-known-n : tie.Need-enum-known-n
-enum-known-n c = search needs
 
 returns : tie.Need-returns
 returns c =
@@ -47,9 +35,6 @@ returns-2 c =
     let k = subst (Checks (a .text .now)) (c .before .lines .given .1) (c .before .before .before .look-through .ensures) in
     assembled-bad (a .text .now) (a .room .now) _ (k .0)
 
-same-length : tie.Need-same-length
-same-length c = search needs
-
 returns-3 : tie.Need-returns-3
 unfolding roomAssembled
 returns-3 c =
@@ -63,15 +48,5 @@ returns-3 c =
 
 pub assemble-spec : {M : Type 1} → statement M
 assemble-spec =
-    tie.close
-    (tie.spec
-    plan-table-requires
-    look-through-requires
-    enum-known-lines
-    add-t10
-    enum-known-n
-    returns
-    store-requires
-    returns-2
-    same-length
-    returns-3)
+    tie.close (tie.spec (λ c κs. search needs) (λ c κs. search needs) (λ c. search needs) add-t10 (λ c. search needs)
+    returns store-requires returns-2 (λ c. search needs) returns-3)

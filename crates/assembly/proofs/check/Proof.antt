@@ -23,12 +23,6 @@ loop-holds c = ([], passed-none _, refl, omega arith)
 read-line-requires : tie.Need-read-line-requires Inv-loop μ-loop
 read-line-requires c κs = let p = c .before .before .before .pre in (c .loop-test .taken, p .0, p .1, p .2)
 
-enum-known-n : tie.Need-enum-known-n Inv-loop μ-loop
-enum-known-n c = search needs
-
-enum-told : tie.Need-enum-told Inv-loop μ-loop
-enum-told c = search needs
-
 returns : tie.Need-returns Inv-loop μ-loop
 returns c =
     let a = c .before .before .before .before .before .before .args in
@@ -81,17 +75,5 @@ returns-2 c = let L = c .before .loop in (L .inv .0, passed-all _ _ _ _ (L .inv 
 
 pub check-spec : {M : Type 1} → statement M
 check-spec =
-    tie.close
-    (tie.spec
-    Inv-loop
-    μ-loop
-    loop-holds
-    read-line-requires
-    enum-known-n
-    enum-told
-    returns
-    add-parcels
-    add-lines
-    loop-less
-    loop-again
-    returns-2)
+    tie.close (tie.spec Inv-loop μ-loop loop-holds read-line-requires (λ c. search needs) (λ c. search needs) returns
+    add-parcels add-lines loop-less loop-again returns-2)

@@ -9,12 +9,6 @@ use borrow.Author.Needs.{needs}
 use Rattle.assembly.proofs.data_at.Statement.{statement}
 use Rattle.assembly.proofs.data_at.Tie as tie
 
-copied-requires : tie.Need-copied-requires
-copied-requires c κs = search needs
-
-slice-aggregate-put-data : tie.Need-slice-aggregate-put-data
-slice-aggregate-put-data c = search needs
-
 put-data-requires : tie.Need-put-data-requires
 put-data-requires c κs =
     let a = c .before .before .before .args in
@@ -22,9 +16,6 @@ put-data-requires c κs =
     let long = length-drop (a .at) (a .text .now) in
     let n = ap length (c .before .copied .ensures) ∙ length-take-le 16 s (omega (arith, long)) in
     (omega (arith, n), c .before .before .before .pre .1)
-
-is-same-requires : tie.Need-is-same-requires
-is-same-requires c κs = search needs
 
 returns : tie.Need-returns
 returns c =
@@ -46,11 +37,5 @@ returns-2 c =
 
 pub data-at-spec : {M : Type 1} → statement M
 data-at-spec =
-    tie.close
-    (tie.spec
-    copied-requires
-    slice-aggregate-put-data
-    put-data-requires
-    is-same-requires
-    returns
+    tie.close (tie.spec (λ c κs. search needs) (λ c. search needs) put-data-requires (λ c κs. search needs) returns
     returns-2)

@@ -15,13 +15,10 @@ returns-3 c =
     rw
     (ne-eqb _ _ (c .before .before .before .before .before .if1 .left), le-ltb _ _ (c .before .before .before .if2 .left), c .before .before .if3 .taken, c .if4 .taken)
 
-add-t7 : tie.Need-add-t7
-add-t7 c = search needs
-
 returns-4 : tie.Need-returns-4
 returns-4 c =
     rw (ne-eqb _ _ (c .before .before .before .before .if1 .left), le-ltb _ _ (c .before .before .if2 .left))
     (⊎-elim (λ w. rw (w .0 .taken, w .2 .left)) (λ w. rw (w .left)) (c .before .if3 .came))
 
 pub found-spec : {M : Type 1} → statement M
-found-spec = tie.close (tie.spec returns returns-2 returns-3 add-t7 returns-4)
+found-spec = tie.close (tie.spec returns returns-2 returns-3 (λ c. search needs) returns-4)

@@ -9,18 +9,6 @@ use borrow.Author.Needs.{needs}
 use Rattle.assembly.proofs.hear.Statement.{statement}
 use Rattle.assembly.proofs.hear.Tie as tie
 
-guess-requires : tie.Need-guess-requires
-guess-requires c κs = search needs
-
-row-of-requires : tie.Need-row-of-requires
-row-of-requires c κs = search needs
-
-has-second-requires : tie.Need-has-second-requires
-has-second-requires c κs = search needs
-
-line-at-requires : tie.Need-line-at-requires
-line-at-requires c κs = search needs
-
 returns : tie.Need-returns
 returns c =
     let a = c .before .before .before .before .before .before .args in
@@ -28,9 +16,6 @@ returns c =
     hears-one (drop (a .at) (a .text .now)) (c .before .before .before .before .guess .result) (c .before .before .before .before .guess .ensures) _
     (second-is _ _ _ low (c .before .before .before .row-of .ensures .0) (c .before .before .has-second .ensures) ∙ not-true _ (c .before .if1 .taken))
     (c .line-at .ensures)
-
-data-at-requires : tie.Need-data-at-requires
-data-at-requires c κs = search needs
 
 returns-2 : tie.Need-returns-2
 returns-2 c =
@@ -40,9 +25,6 @@ returns-2 c =
     (c .before .before .before .before .before .guess .ensures) _
     (second-is _ _ _ low (c .before .before .before .before .row-of .ensures .0) (c .before .before .before .has-second .ensures) ∙ not-false _ (c .before .before .if1 .left))
     (c .before .if2 .taken) (c .data-at .ensures)
-
-line-at-requires-2 : tie.Need-line-at-requires-2
-line-at-requires-2 c κs = search needs
 
 returns-3 : tie.Need-returns-3
 returns-3 c =
@@ -55,14 +37,5 @@ returns-3 c =
 
 pub hear-spec : {M : Type 1} → statement M
 hear-spec =
-    tie.close
-    (tie.spec
-    guess-requires
-    row-of-requires
-    has-second-requires
-    line-at-requires
-    returns
-    data-at-requires
-    returns-2
-    line-at-requires-2
-    returns-3)
+    tie.close (tie.spec (λ c κs. search needs) (λ c κs. search needs) (λ c κs. search needs) (λ c κs. search needs)
+    returns (λ c κs. search needs) returns-2 (λ c κs. search needs) returns-3)

@@ -10,12 +10,6 @@ use borrow.Author.Needs.{needs}
 use Rattle.assembly.proofs.line_at.Statement.{statement}
 use Rattle.assembly.proofs.line_at.Tie as tie
 
-copied-requires : tie.Need-copied-requires
-copied-requires c κs = search needs
-
-slice-aggregate-put-line : tie.Need-slice-aggregate-put-line
-slice-aggregate-put-line c = search needs
-
 put-line-requires : tie.Need-put-line-requires
 put-line-requires c κs =
     let a = c .before .before .before .args in
@@ -25,9 +19,6 @@ put-line-requires c κs =
     let n = ap length (c .before .copied .ensures) ∙ length-take-le 16 s (omega (arith, long)) in
     let few = line-most (a .x) (a .m) (p .2) (p .3) .1 in
     (omega (arith, n, few), p .1, p .2, p .3, p .4, p .5)
-
-is-same-requires : tie.Need-is-same-requires
-is-same-requires c κs = search needs
 
 returns : tie.Need-returns
 returns c =
@@ -51,11 +42,5 @@ returns-2 c =
 
 pub line-at-spec : {M : Type 1} → statement M
 line-at-spec =
-    tie.close
-    (tie.spec
-    copied-requires
-    slice-aggregate-put-line
-    put-line-requires
-    is-same-requires
-    returns
+    tie.close (tie.spec (λ c κs. search needs) (λ c. search needs) put-line-requires (λ c κs. search needs) returns
     returns-2)

@@ -7,15 +7,6 @@ use borrow.Author.Needs.{needs}
 use Rattle.assembly.proofs.list.Statement.{statement}
 use Rattle.assembly.proofs.list.Tie as tie
 
-forms-requires : tie.Need-forms-requires
-forms-requires c κs = search needs
-
-operands-requires : tie.Need-operands-requires
-operands-requires c κs = search needs
-
-is-room-requires : tie.Need-is-room-requires
-is-room-requires c κs = search needs
-
 returns : tie.Need-returns
 returns c =
     let a = c .before .before .before .before .before .before .before .before .args in
@@ -30,9 +21,6 @@ write-requires c κs =
       c .before .before .before .before .before .before .before .operands .ensures,
     )
 
-same-length : tie.Need-same-length
-same-length c = search needs
-
 returns-2 : tie.Need-returns-2
 returns-2 c =
     let a = c .before .before .before .before .before .before .before .before .before .before .before .before .before .before .args in
@@ -42,12 +30,5 @@ returns-2 c =
 
 pub list-spec : {M : Type 1} → statement M
 list-spec =
-    tie.close
-    (tie.spec
-    forms-requires
-    operands-requires
-    is-room-requires
-    returns
-    write-requires
-    same-length
-    returns-2)
+    tie.close (tie.spec (λ c κs. search needs) (λ c κs. search needs) (λ c κs. search needs) returns write-requires
+    (λ c. search needs) returns-2)

@@ -9,24 +9,6 @@ use borrow.Author.Needs.{needs}
 use Rattle.assembly.proofs.look.Statement.{statement}
 use Rattle.assembly.proofs.look.Tie as tie
 
-sub-if1 : tie.Need-sub-if1
-sub-if1 c = search needs
-
-guess-requires : tie.Need-guess-requires
-guess-requires c κs = search needs
-
-returns : tie.Need-returns
-returns c = search needs
-
-tail-requires : tie.Need-tail-requires
-tail-requires c κs = search needs
-
-slice-aggregate-guess : tie.Need-slice-aggregate-guess
-slice-aggregate-guess c = search needs
-
-guess-requires-2 : tie.Need-guess-requires-2
-guess-requires-2 c κs = search needs
-
 returns-2 : tie.Need-returns-2
 returns-2 c =
     let a = c .before .before .before .before .before .args in
@@ -38,12 +20,5 @@ returns-2 c =
 
 pub look-spec : {M : Type 1} → statement M
 look-spec =
-    tie.close
-    (tie.spec
-    sub-if1
-    guess-requires
-    returns
-    tail-requires
-    slice-aggregate-guess
-    guess-requires-2
-    returns-2)
+    tie.close (tie.spec (λ c. search needs) (λ c κs. search needs) (λ c. search needs) (λ c κs. search needs)
+    (λ c. search needs) (λ c κs. search needs) returns-2)

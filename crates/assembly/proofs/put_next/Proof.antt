@@ -10,20 +10,11 @@ use borrow.Author.Needs.{needs}
 use Rattle.assembly.proofs.put_next.Statement.{statement}
 use Rattle.assembly.proofs.put_next.Tie as tie
 
-mul-x : tie.Need-mul-x
-mul-x c = search needs
-
-shared-slice-read-x : tie.Need-shared-slice-read-x
-shared-slice-read-x c = search needs
-
 cast-x : tie.Need-cast-x
 cast-x c = let b = c .shared-slice-known2 .given (c .before .before .before .args .at) in omega (arith, b)
 
 row-of-requires : tie.Need-row-of-requires
 row-of-requires c κs = let b = c .shared-slice-known2 .given (c .before .before .before .args .at) in omega (arith, b)
-
-has-second-requires : tie.Need-has-second-requires
-has-second-requires c κs = search needs
 
 put-line-requires : tie.Need-put-line-requires
 put-line-requires c κs =
@@ -38,12 +29,6 @@ put-line-requires c κs =
     let room = p .1 in
     (omega (arith, e, room), c .before .before .before .row-of .ensures .0, omega (arith, b), omega arith, p .2, p .3)
 
-add-t18 : tie.Need-add-t18
-add-t18 c = search needs
-
-same-length : tie.Need-same-length
-same-length c = search needs
-
 returns : tie.Need-returns
 returns c =
     let a = c .before .before .before .before .before .before .before .before .before .before .args in
@@ -56,9 +41,6 @@ returns c =
     in
     let k = n .1 in
     (wrote-as (n .0) (c .before .before .put-line .ensures .0), (omega (arith, k), omega arith, omega arith))
-
-sub-if2 : tie.Need-sub-if2
-sub-if2 c = search needs
 
 put-data-requires : tie.Need-put-data-requires
 put-data-requires c κs =
@@ -73,12 +55,6 @@ put-data-requires c κs =
     let room = p .1 in
     (omega (arith, e, room), omega (arith, b))
 
-add-t23 : tie.Need-add-t23
-add-t23 c = search needs
-
-same-length-2 : tie.Need-same-length-2
-same-length-2 c = search needs
-
 returns-2 : tie.Need-returns-2
 returns-2 c =
     let a = c .before .before .before .before .before .before .before .before .before .before .before .args in
@@ -91,15 +67,6 @@ returns-2 c =
     (c .before .before .before .before .if2 .taken) in
     let k = n .1 in
     (wrote-as (n .0) (c .before .before .put-data .ensures .0), (omega (arith, k), omega arith, omega arith))
-
-add-m : tie.Need-add-m
-add-m c = search needs
-
-mul-m : tie.Need-mul-m
-mul-m c = search needs
-
-shared-slice-read-m : tie.Need-shared-slice-read-m
-shared-slice-read-m c = search needs
 
 cast-m : tie.Need-cast-m
 cast-m c = let b = c .shared-slice-known3 .given (c .before .before .before .before .before .before .before .before .args .at + 1) in omega (arith, b)
@@ -119,12 +86,6 @@ put-line-requires-2 c κs =
     let room = p .1 in
     (omega (arith, e, room), c .before .before .before .before .before .row-of .ensures .0, omega (arith, b), omega (arith, d), p .2, p .3)
 
-add-t19 : tie.Need-add-t19
-add-t19 c = search needs
-
-same-length-3 : tie.Need-same-length-3
-same-length-3 c = search needs
-
 returns-3 : tie.Need-returns-3
 returns-3 c =
     let a = c .before .before .before .before .before .before .before .before .before .before .before .before .args in
@@ -140,27 +101,7 @@ returns-3 c =
 
 pub put-next-spec : {M : Type 1} → statement M
 put-next-spec =
-    tie.close
-    (tie.spec
-    mul-x
-    shared-slice-read-x
-    cast-x
-    row-of-requires
-    has-second-requires
-    put-line-requires
-    add-t18
-    same-length
-    returns
-    sub-if2
-    put-data-requires
-    add-t23
-    same-length-2
-    returns-2
-    add-m
-    mul-m
-    shared-slice-read-m
-    cast-m
-    put-line-requires-2
-    add-t19
-    same-length-3
-    returns-3)
+    tie.close (tie.spec (λ c. search needs) (λ c. search needs) cast-x row-of-requires (λ c κs. search needs)
+    put-line-requires (λ c. search needs) (λ c. search needs) returns (λ c. search needs) put-data-requires
+    (λ c. search needs) (λ c. search needs) returns-2 (λ c. search needs) (λ c. search needs) (λ c. search needs)
+    cast-m put-line-requires-2 (λ c. search needs) (λ c. search needs) returns-3)

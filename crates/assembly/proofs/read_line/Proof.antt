@@ -9,32 +9,11 @@ use borrow.Author.Needs.{needs}
 use Rattle.assembly.proofs.read_line.Statement.{statement}
 use Rattle.assembly.proofs.read_line.Tie as tie
 
-sub-left : tie.Need-sub-left
-sub-left c = search needs
-
-hear-requires : tie.Need-hear-requires
-hear-requires c κs = search needs
-
-found-requires : tie.Need-found-requires
-found-requires c κs = search needs
-
 returns : tie.Need-returns
 returns c =
     let a = c .before .before .before .before .args in
     subst (λ (r : Read). ReadsAs (a .text .now) (a .at) (readLine (drop (a .at) (a .text .now))) r) (sym (c .found .ensures))
     (heard-here (a .text .now) (a .at) (c .before .before .before .before .pre .0) (c .before .hear .result) (c .before .hear .ensures))
-
-tail-requires : tie.Need-tail-requires
-tail-requires c κs = search needs
-
-slice-aggregate-hear : tie.Need-slice-aggregate-hear
-slice-aggregate-hear c = search needs
-
-hear-requires-2 : tie.Need-hear-requires-2
-hear-requires-2 c κs = search needs
-
-found-requires-2 : tie.Need-found-requires-2
-found-requires-2 c κs = search needs
 
 returns-2 : tie.Need-returns-2
 returns-2 c =
@@ -45,14 +24,5 @@ returns-2 c =
 
 pub read-line-spec : {M : Type 1} → statement M
 read-line-spec =
-    tie.close
-    (tie.spec
-    sub-left
-    hear-requires
-    found-requires
-    returns
-    tail-requires
-    slice-aggregate-hear
-    hear-requires-2
-    found-requires-2
-    returns-2)
+    tie.close (tie.spec (λ c. search needs) (λ c κs. search needs) (λ c κs. search needs) returns
+    (λ c κs. search needs) (λ c. search needs) (λ c κs. search needs) (λ c κs. search needs) returns-2)

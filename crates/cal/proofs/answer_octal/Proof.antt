@@ -4,51 +4,11 @@ use borrow.Author.Needs.{needs}
 use Rattle.cal.proofs.answer_octal.Statement.{statement}
 use Rattle.cal.proofs.answer_octal.Tie as tie
 
-read-full-requires : tie.Need-read-full-requires
-read-full-requires c κs = search needs
-
-slice-reshare-prefix-cal : tie.Need-slice-reshare-prefix-cal
-slice-reshare-prefix-cal c = search needs
-
-slice-aggregate-cal : tie.Need-slice-aggregate-cal
-slice-aggregate-cal c = search needs
-
-cal-requires : tie.Need-cal-requires
-cal-requires c κs = search needs
-
-slice-reshare-prefix-write-all : tie.Need-slice-reshare-prefix-write-all
-slice-reshare-prefix-write-all c = search needs
-
 slice-aggregate-write-all : tie.Need-slice-aggregate-write-all
 slice-aggregate-write-all c = sym (length-take-le _ _ (search needs))
 
-write-all-requires : tie.Need-write-all-requires
-write-all-requires c κs = search needs
-
-same-length : tie.Need-same-length
-same-length c = search needs
-
-same-length-2 : tie.Need-same-length-2
-same-length-2 c = search needs
-
-same-length-3 : tie.Need-same-length-3
-same-length-3 c = search needs
-
-returns : tie.Need-returns
-returns c = search needs
-
 pub answer-octal-spec : {M : Type 1} → statement M
 answer-octal-spec =
-    tie.close
-    (tie.spec
-    read-full-requires
-    slice-reshare-prefix-cal
-    slice-aggregate-cal
-    cal-requires
-    slice-reshare-prefix-write-all
-    slice-aggregate-write-all
-    write-all-requires
-    same-length
-    same-length-2
-    same-length-3
-    returns)
+    tie.close (tie.spec (λ c κs. search needs) (λ c. search needs) (λ c. search needs) (λ c κs. search needs)
+    (λ c. search needs) slice-aggregate-write-all (λ c κs. search needs) (λ c. search needs) (λ c. search needs)
+    (λ c. search needs) (λ c. search needs))

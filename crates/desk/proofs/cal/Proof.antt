@@ -7,12 +7,6 @@ use borrow.Author.Needs.{needs}
 use Rattle.desk.proofs.cal.Statement.{statement}
 use Rattle.desk.proofs.cal.Tie as tie
 
-assemble-requires : tie.Need-assemble-requires
-assemble-requires c κs = search needs
-
-enum-known-n : tie.Need-enum-known-n
-enum-known-n c = search needs
-
 slice-reshare-prefix-put-parcels : tie.Need-slice-reshare-prefix-put-parcels
 slice-reshare-prefix-put-parcels c = c .before .before .before .before .before .before .before .assemble .ensures .holds _ (c .before .n .given .1) .1
 
@@ -24,15 +18,6 @@ put-parcels-requires : tie.Need-put-parcels-requires
 put-parcels-requires c κs =
     let h = c .before .before .before .before .before .before .before .before .before .assemble .ensures .holds _ (c .before .before .before .n .given .1) in
     omega (arith, held (c .before .before .before .before .before .before .before .before .before .assemble .ensures) _ (c .before .before .before .n .given .1), h .2)
-
-enum-known-n-2 : tie.Need-enum-known-n-2
-enum-known-n-2 c = search needs
-
-same-length : tie.Need-same-length
-same-length c = search needs
-
-same-length-2 : tie.Need-same-length-2
-same-length-2 c = search needs
 
 returns : tie.Need-returns
 unfolding calOf
@@ -51,12 +36,6 @@ returns c =
       ),
     )
 
-same-length-3 : tie.Need-same-length-3
-same-length-3 c = search needs
-
-same-length-4 : tie.Need-same-length-4
-same-length-4 c = search needs
-
 returns-2 : tie.Need-returns-2
 unfolding calOf
 returns-2 c =
@@ -65,17 +44,6 @@ returns-2 c =
 
 pub cal-spec : {M : Type 1} → statement M
 cal-spec =
-    tie.close
-    (tie.spec
-    assemble-requires
-    enum-known-n
-    slice-reshare-prefix-put-parcels
-    slice-aggregate-put-parcels
-    put-parcels-requires
-    enum-known-n-2
-    same-length
-    same-length-2
-    returns
-    same-length-3
-    same-length-4
-    returns-2)
+    tie.close (tie.spec (λ c κs. search needs) (λ c. search needs) slice-reshare-prefix-put-parcels
+    slice-aggregate-put-parcels put-parcels-requires (λ c. search needs) (λ c. search needs) (λ c. search needs)
+    returns (λ c. search needs) (λ c. search needs) returns-2)

@@ -6,12 +6,6 @@ use borrow.Author.Needs.{needs}
 use Rattle.desk.proofs.cal_words.Statement.{statement}
 use Rattle.desk.proofs.cal_words.Tie as tie
 
-assemble-requires : tie.Need-assemble-requires
-assemble-requires c κs = search needs
-
-enum-known-n : tie.Need-enum-known-n
-enum-known-n c = search needs
-
 slice-reshare-prefix-put-sheet : tie.Need-slice-reshare-prefix-put-sheet
 slice-reshare-prefix-put-sheet c = c .before .before .before .before .before .before .before .assemble .ensures .holds _ (c .before .n .given .1) .1
 
@@ -24,27 +18,12 @@ put-sheet-requires c κs =
     let h = c .before .before .before .before .before .before .before .before .before .assemble .ensures .holds _ (c .before .before .before .n .given .1) in
     omega (arith, held (c .before .before .before .before .before .before .before .before .before .assemble .ensures) _ (c .before .before .before .n .given .1), h .2)
 
-enum-known-n-2 : tie.Need-enum-known-n-2
-enum-known-n-2 c = search needs
-
-same-length : tie.Need-same-length
-same-length c = search needs
-
-same-length-2 : tie.Need-same-length-2
-same-length-2 c = search needs
-
 returns : tie.Need-returns
 unfolding calWordsOf
 returns c =
     let h = c .before .before .before .before .before .before .before .before .before .before .before .before .assemble .ensures .holds _
     (c .before .before .before .before .before .before .n .given .1) in
     (answer-some (sheetWords _) (h .0) (h .3) (c .before .before .put-sheet .ensures .0), c .before .before .put-sheet .ensures .1)
-
-same-length-3 : tie.Need-same-length-3
-same-length-3 c = search needs
-
-same-length-4 : tie.Need-same-length-4
-same-length-4 c = search needs
 
 returns-2 : tie.Need-returns-2
 unfolding calWordsOf
@@ -54,17 +33,6 @@ returns-2 c =
 
 pub cal-words-spec : {M : Type 1} → statement M
 cal-words-spec =
-    tie.close
-    (tie.spec
-    assemble-requires
-    enum-known-n
-    slice-reshare-prefix-put-sheet
-    slice-aggregate-put-sheet
-    put-sheet-requires
-    enum-known-n-2
-    same-length
-    same-length-2
-    returns
-    same-length-3
-    same-length-4
-    returns-2)
+    tie.close (tie.spec (λ c κs. search needs) (λ c. search needs) slice-reshare-prefix-put-sheet
+    slice-aggregate-put-sheet put-sheet-requires (λ c. search needs) (λ c. search needs) (λ c. search needs) returns
+    (λ c. search needs) (λ c. search needs) returns-2)

@@ -7,30 +7,12 @@ use borrow.Author.Needs.{needs}
 use Rattle.desk.proofs.listing.Statement.{statement}
 use Rattle.desk.proofs.listing.Tie as tie
 
-read-requires : tie.Need-read-requires
-read-requires c κs = search needs
-
-enum-known-n : tie.Need-enum-known-n
-enum-known-n c = search needs
-
 slice-reshare-prefix-put-listing : tie.Need-slice-reshare-prefix-put-listing
 slice-reshare-prefix-put-listing c = c .before .before .before .before .before .before .before .read .ensures .holds _ (c .before .n .given .1) .1
 
 slice-aggregate-put-listing : tie.Need-slice-aggregate-put-listing
 slice-aggregate-put-listing c =
     sym (held (c .before .before .before .before .before .before .before .before .read .ensures) _ (c .before .before .n .given .1))
-
-put-listing-requires : tie.Need-put-listing-requires
-put-listing-requires c κs = search needs
-
-enum-known-n-2 : tie.Need-enum-known-n-2
-enum-known-n-2 c = search needs
-
-same-length : tie.Need-same-length
-same-length c = search needs
-
-same-length-2 : tie.Need-same-length-2
-same-length-2 c = search needs
 
 returns : tie.Need-returns
 unfolding listingOf
@@ -42,12 +24,6 @@ returns c =
       λ l. omega (arith, e, c .before .before .put-listing .ensures .1 (omega (arith, l, e))),
     )
 
-same-length-3 : tie.Need-same-length-3
-same-length-3 c = search needs
-
-same-length-4 : tie.Need-same-length-4
-same-length-4 c = search needs
-
 returns-2 : tie.Need-returns-2
 unfolding listingOf
 returns-2 c =
@@ -56,17 +32,6 @@ returns-2 c =
 
 pub listing-spec : {M : Type 1} → statement M
 listing-spec =
-    tie.close
-    (tie.spec
-    read-requires
-    enum-known-n
-    slice-reshare-prefix-put-listing
-    slice-aggregate-put-listing
-    put-listing-requires
-    enum-known-n-2
-    same-length
-    same-length-2
-    returns
-    same-length-3
-    same-length-4
-    returns-2)
+    tie.close (tie.spec (λ c κs. search needs) (λ c. search needs) slice-reshare-prefix-put-listing
+    slice-aggregate-put-listing (λ c κs. search needs) (λ c. search needs) (λ c. search needs) (λ c. search needs)
+    returns (λ c. search needs) (λ c. search needs) returns-2)

@@ -23,9 +23,6 @@ loop-holds c = (omega arith, refl, λ m q w. simp (add-zero, sub-zero) at w)
 add-put-byte : tie.Need-add-put-byte Inv-loop μ-loop
 add-put-byte c = omega arith
 
-put-byte-requires : tie.Need-put-byte-requires Inv-loop μ-loop
-put-byte-requires c κs = search needs
-
 add-i : tie.Need-add-i Inv-loop μ-loop
 add-i c = omega arith
 
@@ -50,16 +47,5 @@ returns c = (c .before .loop .inv .2 _ _ (blanks-done _ _ _ _ (c .loop-test .lef
 
 pub put-blanks-spec : {M : Type 1} → statement M
 put-blanks-spec =
-    tie.close
-    (tie.spec
-    Inv-loop
-    μ-loop
-    loop-holds
-    add-put-byte
-    put-byte-requires
-    add-i
-    loop-less
-    loop-again
-    add-result
-    same-length
-    returns)
+    tie.close (tie.spec Inv-loop μ-loop loop-holds add-put-byte (λ c κs. search needs) add-i loop-less loop-again
+    add-result same-length returns)

@@ -7,24 +7,12 @@ use borrow.Author.Needs.{needs}
 use Rattle.desk.proofs.put_cal.Statement.{statement}
 use Rattle.desk.proofs.put_cal.Tie as tie
 
-forms-requires : tie.Need-forms-requires
-forms-requires c κs = search needs
-
-operands-requires : tie.Need-operands-requires
-operands-requires c κs = search needs
-
-slice-aggregate-put-line : tie.Need-slice-aggregate-put-line
-slice-aggregate-put-line c = search needs
-
 put-line-requires : tie.Need-put-line-requires
 put-line-requires c κs =
     let s = c .before .before .before .before .before .before in
     let p = s .pre in
     let most = line-most (s .args .x) (s .args .m) (p .2) (p .3) in
     (omega (arith, most .1), p .1, p .2, p .3, c .before .before .before .before .forms .ensures, c .before .before .before .operands .ensures)
-
-array-share-prefix-line : tie.Need-array-share-prefix-line
-array-share-prefix-line c = search needs
 
 slice-aggregate-put-text : tie.Need-slice-aggregate-put-text
 slice-aggregate-put-text c = sym (length-take-le _ _ (search needs))
@@ -34,9 +22,6 @@ put-text-requires c κs =
     let p = c .before .before .before .put-line in
     (search needs, omega (arith, length-take-le (p .result) (p .last .0) (search needs)))
 
-same-length : tie.Need-same-length
-same-length c = search needs
-
 returns : tie.Need-returns
 returns c =
     let h = copied (c .before .before .before .before .before .before .put-line .ensures .0)
@@ -45,14 +30,5 @@ returns c =
 
 pub put-cal-spec : {M : Type 1} → statement M
 put-cal-spec =
-    tie.close
-    (tie.spec
-    forms-requires
-    operands-requires
-    slice-aggregate-put-line
-    put-line-requires
-    array-share-prefix-line
-    slice-aggregate-put-text
-    put-text-requires
-    same-length
-    returns)
+    tie.close (tie.spec (λ c κs. search needs) (λ c κs. search needs) (λ c. search needs) put-line-requires
+    (λ c. search needs) slice-aggregate-put-text put-text-requires (λ c. search needs) returns)

@@ -9,12 +9,6 @@ use borrow.Author.Needs.{needs}
 use Rattle.desk.proofs.put_column.Statement.{statement}
 use Rattle.desk.proofs.put_column.Tie as tie
 
-slice-aggregate-put-number : tie.Need-slice-aggregate-put-number
-slice-aggregate-put-number c = search needs
-
-put-number-requires : tie.Need-put-number-requires
-put-number-requires c κs = search needs
-
 sub-put-blanks : tie.Need-sub-put-blanks
 sub-put-blanks c =
     omega (arith, c .before .before .put-number .ensures .0 .place, address-most (c .before .before .before .before .before .args .address))
@@ -25,9 +19,6 @@ put-blanks-requires c κs =
 
 put-number-requires-2 : tie.Need-put-number-requires-2
 put-number-requires-2 c κs = omega (arith, c .before .before .before .put-blanks .ensures .1)
-
-same-length : tie.Need-same-length
-same-length c = search needs
 
 returns : tie.Need-returns
 returns c =
@@ -40,12 +31,5 @@ returns c =
 
 pub put-column-spec : {M : Type 1} → statement M
 put-column-spec =
-    tie.close
-    (tie.spec
-    slice-aggregate-put-number
-    put-number-requires
-    sub-put-blanks
-    put-blanks-requires
-    put-number-requires-2
-    same-length
-    returns)
+    tie.close (tie.spec (λ c. search needs) (λ c κs. search needs) sub-put-blanks put-blanks-requires
+    put-number-requires-2 (λ c. search needs) returns)

@@ -7,15 +7,6 @@ use borrow.Author.Needs.{needs}
 use Rattle.desk.proofs.put_data.Statement.{statement}
 use Rattle.desk.proofs.put_data.Tie as tie
 
-slice-aggregate-put-data : tie.Need-slice-aggregate-put-data
-slice-aggregate-put-data c = search needs
-
-put-data-requires : tie.Need-put-data-requires
-put-data-requires c κs = search needs
-
-array-share-prefix-line : tie.Need-array-share-prefix-line
-array-share-prefix-line c = search needs
-
 slice-aggregate-put-text : tie.Need-slice-aggregate-put-text
 slice-aggregate-put-text c = sym (length-take-le _ _ (search needs))
 
@@ -23,9 +14,6 @@ put-text-requires : tie.Need-put-text-requires
 put-text-requires c κs =
     let p = c .before .before .before .put-data in
     (search needs, omega (arith, length-take-le (p .result) (p .last .0) (search needs)))
-
-same-length : tie.Need-same-length
-same-length c = search needs
 
 returns : tie.Need-returns
 returns c =
@@ -35,12 +23,5 @@ returns c =
 
 pub put-data-spec : {M : Type 1} → statement M
 put-data-spec =
-    tie.close
-    (tie.spec
-    slice-aggregate-put-data
-    put-data-requires
-    array-share-prefix-line
-    slice-aggregate-put-text
-    put-text-requires
-    same-length
-    returns)
+    tie.close (tie.spec (λ c. search needs) (λ c κs. search needs) (λ c. search needs) slice-aggregate-put-text
+    put-text-requires (λ c. search needs) returns)

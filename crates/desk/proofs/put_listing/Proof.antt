@@ -6,28 +6,10 @@ use borrow.Author.Needs.{needs}
 use Rattle.desk.proofs.put_listing.Statement.{statement}
 use Rattle.desk.proofs.put_listing.Tie as tie
 
-list-requires : tie.Need-list-requires
-list-requires c κs = search needs
-
-enum-known-n : tie.Need-enum-known-n
-enum-known-n c = search needs
-
-enum-told : tie.Need-enum-told
-enum-told c = search needs
-
-put-refused-requires : tie.Need-put-refused-requires
-put-refused-requires c κs = search needs
-
-same-length : tie.Need-same-length
-same-length c = search needs
-
 returns : tie.Need-returns
 returns c =
     let h = listed-fits _ _ _ (c .before .before .before .before .before .list .ensures .1) _ (sym (c .before .before .before .before .before .list .ensures .0) ∙ c .before .n .given .1) in
     (h .0, λ l. h .1)
-
-same-length-2 : tie.Need-same-length-2
-same-length-2 c = search needs
 
 returns-2 : tie.Need-returns-2
 returns-2 c =
@@ -37,13 +19,5 @@ returns-2 c =
 
 pub put-listing-spec : {M : Type 1} → statement M
 put-listing-spec =
-    tie.close
-    (tie.spec
-    list-requires
-    enum-known-n
-    enum-told
-    put-refused-requires
-    same-length
-    returns
-    same-length-2
-    returns-2)
+    tie.close (tie.spec (λ c κs. search needs) (λ c. search needs) (λ c. search needs) (λ c κs. search needs)
+    (λ c. search needs) returns (λ c. search needs) returns-2)

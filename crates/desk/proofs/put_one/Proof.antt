@@ -4,15 +4,6 @@ use borrow.Author.Needs.{needs}
 use Rattle.desk.proofs.put_one.Statement.{statement}
 use Rattle.desk.proofs.put_one.Tie as tie
 
-put-parcel-requires : tie.Need-put-parcel-requires
-put-parcel-requires c κs = search needs
-
-put-blanks-requires : tie.Need-put-blanks-requires
-put-blanks-requires c κs = search needs
-
-same-length : tie.Need-same-length
-same-length c = search needs
-
 returns : tie.Need-returns
 returns c = (
   then (c .before .before .before .before .before .before .put-parcel .ensures .0) (c .before .before .put-blanks .ensures .0),
@@ -20,4 +11,4 @@ returns c = (
 )
 
 pub put-one-spec : {M : Type 1} → statement M
-put-one-spec = tie.close (tie.spec put-parcel-requires put-blanks-requires same-length returns)
+put-one-spec = tie.close (tie.spec (λ c κs. search needs) (λ c κs. search needs) (λ c. search needs) returns)

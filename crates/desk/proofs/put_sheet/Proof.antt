@@ -5,15 +5,6 @@ use borrow.Author.Needs.{needs}
 use Rattle.desk.proofs.put_sheet.Statement.{statement}
 use Rattle.desk.proofs.put_sheet.Tie as tie
 
-words-for-requires : tie.Need-words-for-requires
-words-for-requires c κs = search needs
-
-put-refused-requires : tie.Need-put-refused-requires
-put-refused-requires c κs = search needs
-
-same-length : tie.Need-same-length
-same-length c = search needs
-
 returns : tie.Need-returns
 returns c =
     let a = c .before .before .before .before .before .before .before .before .args in (
@@ -21,24 +12,12 @@ returns c =
       omega (arith, c .before .before .put-refused .ensures .1),
     )
 
-put-refused-requires-2 : tie.Need-put-refused-requires-2
-put-refused-requires-2 c κs = search needs
-
-same-length-2 : tie.Need-same-length-2
-same-length-2 c = search needs
-
 returns-2 : tie.Need-returns-2
 returns-2 c =
     let a = c .before .before .before .before .before .before .before .before .before .args in (
       wrote-as (sheet-full (a .address) (a .parcels .now) (omega (arith, c .before .before .before .before .before .before .words-for .ensures))) (c .before .before .put-refused2 .ensures .0),
       omega (arith, c .before .before .put-refused2 .ensures .1),
     )
-
-put-words-requires : tie.Need-put-words-requires
-put-words-requires c κs = search needs
-
-same-length-3 : tie.Need-same-length-3
-same-length-3 c = search needs
 
 returns-3 : tie.Need-returns-3
 returns-3 c =
@@ -49,15 +28,5 @@ returns-3 c =
 
 pub put-sheet-spec : {M : Type 1} → statement M
 put-sheet-spec =
-    tie.close
-    (tie.spec
-    words-for-requires
-    put-refused-requires
-    same-length
-    returns
-    put-refused-requires-2
-    same-length-2
-    returns-2
-    put-words-requires
-    same-length-3
-    returns-3)
+    tie.close (tie.spec (λ c κs. search needs) (λ c κs. search needs) (λ c. search needs) returns
+    (λ c κs. search needs) (λ c. search needs) returns-2 (λ c κs. search needs) (λ c. search needs) returns-3)

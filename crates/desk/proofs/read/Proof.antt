@@ -5,36 +5,9 @@ use borrow.Author.Needs.{needs}
 use Rattle.desk.proofs.read.Statement.{statement}
 use Rattle.desk.proofs.read.Tie as tie
 
-put-refused-line-requires : tie.Need-put-refused-line-requires
-put-refused-line-requires c κs = search needs
-
-same-length : tie.Need-same-length
-same-length c = search needs
-
 returns : tie.Need-returns
 returns c =
     gives-refusal (octal-long _ _ (c .before .before .before .before .if1 .taken)) (c .before .before .put-refused-line .ensures .0) (c .before .before .put-refused-line .ensures .1)
-
-read-requires : tie.Need-read-requires
-read-requires c κs = search needs
-
-enum-known-n : tie.Need-enum-known-n
-enum-known-n c = search needs
-
-enum-known-line : tie.Need-enum-known-line
-enum-known-line c = search needs
-
-put-refused-line-requires-2 : tie.Need-put-refused-line-requires-2
-put-refused-line-requires-2 c κs = search needs
-
-enum-told : tie.Need-enum-told
-enum-told c = search needs
-
-put-refused-requires : tie.Need-put-refused-requires
-put-refused-requires c κs = search needs
-
-same-length-2 : tie.Need-same-length-2
-same-length-2 c = search needs
 
 returns-2 : tie.Need-returns-2
 returns-2 c =
@@ -42,23 +15,11 @@ returns-2 c =
     (c .before .before .before .before .before .read .ensures .1) _ (sym (c .before .before .before .before .before .read .ensures .0) ∙ c .before .n .given .1) in
     gives-some (h .0) (h .1) (h .2)
 
-same-length-3 : tie.Need-same-length-3
-same-length-3 c = search needs
-
-same-length-4 : tie.Need-same-length-4
-same-length-4 c = search needs
-
 returns-3 : tie.Need-returns-3
 returns-3 c =
     gives-refusal (octal-bad _ _ (c .before .before .before .before .before .before .before .before .before .before .before .if1 .left) _ (sym
     (c .before .before .before .before .before .before .before .before .before .read .ensures .0)
     ∙ c .before .before .before .before .before .line .given .1)) (c .before .before .put-refused-line2 .ensures .0) (c .before .before .put-refused-line2 .ensures .1)
-
-same-length-5 : tie.Need-same-length-5
-same-length-5 c = search needs
-
-same-length-6 : tie.Need-same-length-6
-same-length-6 c = search needs
 
 returns-4 : tie.Need-returns-4
 returns-4 c =
@@ -68,22 +29,6 @@ returns-4 c =
 
 pub read-spec : {M : Type 1} → statement M
 read-spec =
-    tie.close
-    (tie.spec
-    put-refused-line-requires
-    same-length
-    returns
-    read-requires
-    enum-known-n
-    enum-known-line
-    put-refused-line-requires-2
-    enum-told
-    put-refused-requires
-    same-length-2
-    returns-2
-    same-length-3
-    same-length-4
-    returns-3
-    same-length-5
-    same-length-6
-    returns-4)
+    tie.close (tie.spec (λ c κs. search needs) (λ c. search needs) returns (λ c κs. search needs) (λ c. search needs)
+    (λ c. search needs) (λ c κs. search needs) (λ c. search needs) (λ c κs. search needs) (λ c. search needs)
+    returns-2 (λ c. search needs) (λ c. search needs) returns-3 (λ c. search needs) (λ c. search needs) returns-4)

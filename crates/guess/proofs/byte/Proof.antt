@@ -7,15 +7,9 @@ use borrow.Author.Needs.{needs}
 use Rattle.guess.proofs.byte.Statement.{statement}
 use Rattle.guess.proofs.byte.Tie as tie
 
-add-result : tie.Need-add-result
-add-result c = search needs
-
-shared-slice-read-result : tie.Need-shared-slice-read-result
-shared-slice-read-result c = search needs
-
 returns : tie.Need-returns
 returns c =
     let a = c .before .args in default-free (a .text .now) (a .at + a .p) 0 10 (omega (arith, c .before .pre)) ∙ sym (getD-drop (a .at) _ (a .p) 10)
 
 pub byte-spec : {M : Type 1} → statement M
-byte-spec = tie.close (tie.spec add-result shared-slice-read-result returns)
+byte-spec = tie.close (tie.spec (λ c. search needs) (λ c. search needs) returns)

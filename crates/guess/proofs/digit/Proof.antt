@@ -4,12 +4,6 @@ use borrow.Author.Needs.{needs}
 use Rattle.guess.proofs.digit.Statement.{statement}
 use Rattle.guess.proofs.digit.Tie as tie
 
-byte-requires : tie.Need-byte-requires
-byte-requires c κs = search needs
-
-cast-result : tie.Need-cast-result
-cast-result c = search needs
-
 returns : tie.Need-returns
 returns c = (rw (c .if1 .taken), omega arith)
 
@@ -17,4 +11,4 @@ returns-2 : tie.Need-returns-2
 returns-2 c = (rw (← c .byte .ensures, ne-eqb _ _ (c .before .if1 .left)), omega arith)
 
 pub digit-spec : {M : Type 1} → statement M
-digit-spec = tie.close (tie.spec byte-requires cast-result returns returns-2)
+digit-spec = tie.close (tie.spec (λ c κs. search needs) (λ c. search needs) returns returns-2)

@@ -7,32 +7,11 @@ use borrow.Author.Needs.{needs}
 use Rattle.guess.proofs.guess_with.Statement.{statement}
 use Rattle.guess.proofs.guess_with.Tie as tie
 
-mul-q : tie.Need-mul-q
-mul-q c = search needs
-
-add-digit : tie.Need-add-digit
-add-digit c = search needs
-
-mul-digit : tie.Need-mul-digit
-mul-digit c = search needs
-
-element-copy-out-digit : tie.Need-element-copy-out-digit
-element-copy-out-digit c = search needs
-
 cast-digit : tie.Need-cast-digit
 cast-digit c = let s = c .before .before in omega (arith, place-small (s .pre .1) (s .pre .2) 0 (omega arith))
 
 digit-requires : tie.Need-digit-requires
 digit-requires c κs = let s = c .before .before in (s .pre .0, omega (arith, place-small (s .pre .1) (s .pre .2) 0 (omega arith)))
-
-add-digit-2 : tie.Need-add-digit-2
-add-digit-2 c = search needs
-
-mul-digit-2 : tie.Need-mul-digit-2
-mul-digit-2 c = search needs
-
-element-copy-out-digit-2 : tie.Need-element-copy-out-digit-2
-element-copy-out-digit-2 c = search needs
 
 cast-digit-2 : tie.Need-cast-digit-2
 cast-digit-2 c = let s = c .before .before .before .before in omega (arith, place-small (s .pre .1) (s .pre .2) 1 (omega arith))
@@ -40,30 +19,12 @@ cast-digit-2 c = let s = c .before .before .before .before in omega (arith, plac
 digit-requires-2 : tie.Need-digit-requires-2
 digit-requires-2 c κs = let s = c .before .before .before .before in (s .pre .0, omega (arith, place-small (s .pre .1) (s .pre .2) 1 (omega arith)))
 
-add-digit-3 : tie.Need-add-digit-3
-add-digit-3 c = search needs
-
-mul-digit-3 : tie.Need-mul-digit-3
-mul-digit-3 c = search needs
-
-element-copy-out-digit-3 : tie.Need-element-copy-out-digit-3
-element-copy-out-digit-3 c = search needs
-
 cast-digit-3 : tie.Need-cast-digit-3
 cast-digit-3 c = let s = c .before .before .before .before .before .before in omega (arith, place-small (s .pre .1) (s .pre .2) 2 (omega arith))
 
 digit-requires-3 : tie.Need-digit-requires-3
 digit-requires-3 c κs =
     let s = c .before .before .before .before .before .before in (s .pre .0, omega (arith, place-small (s .pre .1) (s .pre .2) 2 (omega arith)))
-
-add-digit-4 : tie.Need-add-digit-4
-add-digit-4 c = search needs
-
-mul-digit-4 : tie.Need-mul-digit-4
-mul-digit-4 c = search needs
-
-element-copy-out-digit-4 : tie.Need-element-copy-out-digit-4
-element-copy-out-digit-4 c = search needs
 
 cast-digit-4 : tie.Need-cast-digit-4
 cast-digit-4 c =
@@ -74,26 +35,14 @@ digit-requires-4 c κs =
     let s = c .before .before .before .before .before .before .before .before in
     (s .pre .0, omega (arith, place-small (s .pre .1) (s .pre .2) 3 (omega arith)))
 
-mul-x : tie.Need-mul-x
-mul-x c = search needs
-
-element-copy-out-x : tie.Need-element-copy-out-x
-element-copy-out-x c = search needs
-
 cast-x : tie.Need-cast-x
 cast-x c =
     let s = c .before .before .before .before .before .before .before .before .before .before in omega (arith, base-small (s .pre .1) (s .pre .2))
-
-mul-x-2 : tie.Need-mul-x-2
-mul-x-2 c = search needs
 
 add-x : tie.Need-add-x
 add-x c =
     let s = c .before .before .before .before .before .before .before .before .before .before in
     omega (arith, base-small (s .pre .1) (s .pre .2), c .before .before .before .before .before .before .before .digit .ensures .1)
-
-mul-x-3 : tie.Need-mul-x-3
-mul-x-3 c = search needs
 
 add-x-2 : tie.Need-add-x-2
 add-x-2 c =
@@ -104,9 +53,6 @@ add-x-2 c =
       c .before .before .before .before .before .before .before .digit .ensures .1,
       c .before .before .before .before .before .digit2 .ensures .1,
     )
-
-mul-x-4 : tie.Need-mul-x-4
-mul-x-4 c = search needs
 
 add-x-3 : tie.Need-add-x-3
 add-x-3 c =
@@ -131,28 +77,10 @@ add-x-4 c =
       c .before .digit4 .ensures .1,
     )
 
-add-p : tie.Need-add-p
-add-p c = search needs
-
-mul-p : tie.Need-mul-p
-mul-p c = search needs
-
-element-copy-out-p : tie.Need-element-copy-out-p
-element-copy-out-p c = search needs
-
 cast-p : tie.Need-cast-p
 cast-p c =
     let s = c .before .before .before .before .before .before .before .before .before .before .before in
     omega (arith, place-small (s .pre .1) (s .pre .2) 4 (omega arith))
-
-add-if1 : tie.Need-add-if1
-add-if1 c = search needs
-
-mul-if1 : tie.Need-mul-if1
-mul-if1 c = search needs
-
-element-copy-out-if1 : tie.Need-element-copy-out-if1
-element-copy-out-if1 c = search needs
 
 add-one : tie.Need-add-one
 add-one c =
@@ -176,15 +104,6 @@ returns c =
       ← c .before .before .before .before .before .digit4 .ensures .0,
       c .before .if1 .taken,
     ) (c .one .ensures)
-
-add-with-number : tie.Need-add-with-number
-add-with-number c = search needs
-
-mul-with-number : tie.Need-mul-with-number
-mul-with-number c = search needs
-
-element-copy-out-with-number : tie.Need-element-copy-out-with-number
-element-copy-out-with-number c = search needs
 
 number-requires : tie.Need-number-requires
 number-requires c κs =
@@ -225,52 +144,11 @@ returns-2 c =
 
 pub guess-with-spec : {M : Type 1} → statement M
 guess-with-spec =
-    tie.close
-    (tie.spec
-    mul-q
-    add-digit
-    mul-digit
-    element-copy-out-digit
-    cast-digit
-    digit-requires
-    add-digit-2
-    mul-digit-2
-    element-copy-out-digit-2
-    cast-digit-2
-    digit-requires-2
-    add-digit-3
-    mul-digit-3
-    element-copy-out-digit-3
-    cast-digit-3
-    digit-requires-3
-    add-digit-4
-    mul-digit-4
-    element-copy-out-digit-4
-    cast-digit-4
-    digit-requires-4
-    mul-x
-    element-copy-out-x
-    cast-x
-    mul-x-2
-    add-x
-    mul-x-3
-    add-x-2
-    mul-x-4
-    add-x-3
-    add-x-4
-    add-p
-    mul-p
-    element-copy-out-p
-    cast-p
-    add-if1
-    mul-if1
-    element-copy-out-if1
-    add-one
-    one-requires
-    returns
-    add-with-number
-    mul-with-number
-    element-copy-out-with-number
-    number-requires
-    with-number-requires
-    returns-2)
+    tie.close (tie.spec (λ c. search needs) (λ c. search needs) (λ c. search needs) (λ c. search needs) cast-digit
+    digit-requires (λ c. search needs) (λ c. search needs) (λ c. search needs) cast-digit-2 digit-requires-2
+    (λ c. search needs) (λ c. search needs) (λ c. search needs) cast-digit-3 digit-requires-3 (λ c. search needs)
+    (λ c. search needs) (λ c. search needs) cast-digit-4 digit-requires-4 (λ c. search needs) (λ c. search needs)
+    cast-x (λ c. search needs) add-x (λ c. search needs) add-x-2 (λ c. search needs) add-x-3 add-x-4
+    (λ c. search needs) (λ c. search needs) (λ c. search needs) cast-p (λ c. search needs) (λ c. search needs)
+    (λ c. search needs) add-one one-requires returns (λ c. search needs) (λ c. search needs) (λ c. search needs)
+    number-requires with-number-requires returns-2)

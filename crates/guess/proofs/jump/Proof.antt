@@ -5,18 +5,6 @@ use borrow.Author.Needs.{needs}
 use Rattle.guess.proofs.jump.Statement.{statement}
 use Rattle.guess.proofs.jump.Tie as tie
 
-byte-requires : tie.Need-byte-requires
-byte-requires c κs = search needs
-
-add-result : tie.Need-add-result
-add-result c = search needs
-
-add-result-2 : tie.Need-add-result-2
-add-result-2 c = search needs
-
-add-result-3 : tie.Need-add-result-3
-add-result-3 c = search needs
-
 returns : tie.Need-returns
 unfolding told
 returns c = (rw (← c .before .byte .ensures, c .match .keys1), omega arith)
@@ -44,13 +32,5 @@ returns-4 c =
 
 pub jump-spec : {M : Type 1} → statement M
 jump-spec =
-    tie.close
-    (tie.spec
-    byte-requires
-    add-result
-    add-result-2
-    add-result-3
-    returns
-    returns-2
-    returns-3
-    returns-4)
+    tie.close (tie.spec (λ c κs. search needs) (λ c. search needs) (λ c. search needs) (λ c. search needs) returns
+    returns-2 returns-3 returns-4)

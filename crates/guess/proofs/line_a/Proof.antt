@@ -5,12 +5,6 @@ use borrow.Author.Needs.{needs}
 use Rattle.guess.proofs.line_a.Statement.{statement}
 use Rattle.guess.proofs.line_a.Tie as tie
 
-byte-requires : tie.Need-byte-requires
-byte-requires c κs = search needs
-
-line-aa-requires : tie.Need-line-aa-requires
-line-aa-requires c κs = search needs
-
 returns : tie.Need-returns
 unfolding told
 returns c = (rw (← c .before .before .byte .ensures, c .before .match .keys1) (c .line-aa .ensures .0), c .line-aa .ensures .1)
@@ -58,15 +52,5 @@ returns-8 c =
 
 pub line-a-spec : {M : Type 1} → statement M
 line-a-spec =
-    tie.close
-    (tie.spec
-    byte-requires
-    line-aa-requires
-    returns
-    returns-2
-    returns-3
-    returns-4
-    returns-5
-    returns-6
-    returns-7
-    returns-8)
+    tie.close (tie.spec (λ c κs. search needs) (λ c κs. search needs) returns returns-2 returns-3 returns-4 returns-5
+    returns-6 returns-7 returns-8)

@@ -5,12 +5,6 @@ use borrow.Author.Needs.{needs}
 use Rattle.guess.proofs.line_c.Statement.{statement}
 use Rattle.guess.proofs.line_c.Tie as tie
 
-byte-requires : tie.Need-byte-requires
-byte-requires c κs = search needs
-
-byte-requires-2 : tie.Need-byte-requires-2
-byte-requires-2 c κs = search needs
-
 returns : tie.Need-returns
 unfolding told
 returns c = (rw (← c .before .byte .ensures, c .match .keys1), omega arith)
@@ -51,13 +45,5 @@ returns-6 c =
 
 pub line-c-spec : {M : Type 1} → statement M
 line-c-spec =
-    tie.close
-    (tie.spec
-    byte-requires
-    byte-requires-2
-    returns
-    returns-2
-    returns-3
-    returns-4
-    returns-5
+    tie.close (tie.spec (λ c κs. search needs) (λ c κs. search needs) returns returns-2 returns-3 returns-4 returns-5
     returns-6)

@@ -5,15 +5,9 @@ use borrow.Author.Needs.{needs}
 use Rattle.guess.proofs.line_comma.Statement.{statement}
 use Rattle.guess.proofs.line_comma.Tie as tie
 
-byte-requires : tie.Need-byte-requires
-byte-requires c κs = search needs
-
 returns : tie.Need-returns
 unfolding told
 returns c = (rw (← c .before .byte .ensures, c .if1 .taken), omega arith)
-
-byte-requires-2 : tie.Need-byte-requires-2
-byte-requires-2 c κs = search needs
 
 returns-2 : tie.Need-returns-2
 unfolding told
@@ -35,4 +29,4 @@ returns-3 c = (
 )
 
 pub line-comma-spec : {M : Type 1} → statement M
-line-comma-spec = tie.close (tie.spec byte-requires returns byte-requires-2 returns-2 returns-3)
+line-comma-spec = tie.close (tie.spec (λ c κs. search needs) returns (λ c κs. search needs) returns-2 returns-3)

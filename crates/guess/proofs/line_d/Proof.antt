@@ -5,9 +5,6 @@ use borrow.Author.Needs.{needs}
 use Rattle.guess.proofs.line_d.Statement.{statement}
 use Rattle.guess.proofs.line_d.Tie as tie
 
-byte-requires : tie.Need-byte-requires
-byte-requires c κs = search needs
-
 returns : tie.Need-returns
 unfolding told
 returns c = (rw (← c .before .byte .ensures, c .match .keys1), omega arith)
@@ -21,4 +18,4 @@ unfolding told
 returns-3 c = (rw (← c .before .byte .ensures, ne-eqb _ _ (c .match .rest .0 .1), ne-eqb _ _ (c .match .rest .1)), omega arith)
 
 pub line-d-spec : {M : Type 1} → statement M
-line-d-spec = tie.close (tie.spec byte-requires returns returns-2 returns-3)
+line-d-spec = tie.close (tie.spec (λ c κs. search needs) returns returns-2 returns-3)

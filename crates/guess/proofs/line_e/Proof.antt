@@ -5,12 +5,6 @@ use borrow.Author.Needs.{needs}
 use Rattle.guess.proofs.line_e.Statement.{statement}
 use Rattle.guess.proofs.line_e.Tie as tie
 
-byte-requires : tie.Need-byte-requires
-byte-requires c κs = search needs
-
-byte-requires-2 : tie.Need-byte-requires-2
-byte-requires-2 c κs = search needs
-
 returns : tie.Need-returns
 unfolding told
 returns c =
@@ -46,5 +40,4 @@ returns-5 c =
 
 pub line-e-spec : {M : Type 1} → statement M
 line-e-spec =
-    tie.close
-    (tie.spec byte-requires byte-requires-2 returns returns-2 returns-3 returns-4 returns-5)
+    tie.close (tie.spec (λ c κs. search needs) (λ c κs. search needs) returns returns-2 returns-3 returns-4 returns-5)

@@ -5,18 +5,6 @@ use borrow.Author.Needs.{needs}
 use Rattle.guess.proofs.line_j.Statement.{statement}
 use Rattle.guess.proofs.line_j.Tie as tie
 
-byte-requires : tie.Need-byte-requires
-byte-requires c κs = search needs
-
-jump-requires : tie.Need-jump-requires
-jump-requires c κs = search needs
-
-jump-requires-2 : tie.Need-jump-requires-2
-jump-requires-2 c κs = search needs
-
-byte-requires-2 : tie.Need-byte-requires-2
-byte-requires-2 c κs = search needs
-
 returns : tie.Need-returns
 unfolding told
 returns c = (rw (← c .before .before .byte .ensures, c .before .match .keys1) (c .jump .ensures .0), c .jump .ensures .1)
@@ -55,13 +43,5 @@ returns-4 c =
 
 pub line-j-spec : {M : Type 1} → statement M
 line-j-spec =
-    tie.close
-    (tie.spec
-    byte-requires
-    jump-requires
-    jump-requires-2
-    byte-requires-2
-    returns
-    returns-2
-    returns-3
-    returns-4)
+    tie.close (tie.spec (λ c κs. search needs) (λ c κs. search needs) (λ c κs. search needs) (λ c κs. search needs)
+    returns returns-2 returns-3 returns-4)

@@ -5,18 +5,6 @@ use borrow.Author.Needs.{needs}
 use Rattle.guess.proofs.line_s.Statement.{statement}
 use Rattle.guess.proofs.line_s.Tie as tie
 
-byte-requires : tie.Need-byte-requires
-byte-requires c κs = search needs
-
-line-ss-requires : tie.Need-line-ss-requires
-line-ss-requires c κs = search needs
-
-byte-requires-2 : tie.Need-byte-requires-2
-byte-requires-2 c κs = search needs
-
-byte-requires-3 : tie.Need-byte-requires-3
-byte-requires-3 c κs = search needs
-
 returns : tie.Need-returns
 unfolding told
 returns c = (rw (← c .before .before .byte .ensures, c .before .match .keys1) (c .line-ss .ensures .0), c .line-ss .ensures .1)
@@ -85,20 +73,5 @@ returns-11 c =
 
 pub line-s-spec : {M : Type 1} → statement M
 line-s-spec =
-    tie.close
-    (tie.spec
-    byte-requires
-    line-ss-requires
-    byte-requires-2
-    byte-requires-3
-    returns
-    returns-2
-    returns-3
-    returns-4
-    returns-5
-    returns-6
-    returns-7
-    returns-8
-    returns-9
-    returns-10
-    returns-11)
+    tie.close (tie.spec (λ c κs. search needs) (λ c κs. search needs) (λ c κs. search needs) (λ c κs. search needs)
+    returns returns-2 returns-3 returns-4 returns-5 returns-6 returns-7 returns-8 returns-9 returns-10 returns-11)

@@ -5,48 +5,6 @@ use borrow.Author.Needs.{needs}
 use Rattle.guess.proofs.line_sign.Statement.{statement}
 use Rattle.guess.proofs.line_sign.Tie as tie
 
-byte-requires : tie.Need-byte-requires
-byte-requires c κs = search needs
-
-line-a-requires : tie.Need-line-a-requires
-line-a-requires c κs = search needs
-
-line-s-requires : tie.Need-line-s-requires
-line-s-requires c κs = search needs
-
-line-v-requires : tie.Need-line-v-requires
-line-v-requires c κs = search needs
-
-line-j-requires : tie.Need-line-j-requires
-line-j-requires c κs = search needs
-
-byte-requires-2 : tie.Need-byte-requires-2
-byte-requires-2 c κs = search needs
-
-byte-requires-3 : tie.Need-byte-requires-3
-byte-requires-3 c κs = search needs
-
-line-comma-requires : tie.Need-line-comma-requires
-line-comma-requires c κs = search needs
-
-line-c-requires : tie.Need-line-c-requires
-line-c-requires c κs = search needs
-
-line-d-requires : tie.Need-line-d-requires
-line-d-requires c κs = search needs
-
-line-e-requires : tie.Need-line-e-requires
-line-e-requires c κs = search needs
-
-byte-requires-4 : tie.Need-byte-requires-4
-byte-requires-4 c κs = search needs
-
-byte-requires-5 : tie.Need-byte-requires-5
-byte-requires-5 c κs = search needs
-
-byte-requires-6 : tie.Need-byte-requires-6
-byte-requires-6 c κs = search needs
-
 returns : tie.Need-returns
 unfolding told
 returns c = (rw (← c .before .before .byte .ensures, c .before .match .keys1) (c .line-a .ensures .0), c .line-a .ensures .1)
@@ -174,40 +132,8 @@ returns-21 c =
 
 pub line-sign-spec : {M : Type 1} → statement M
 line-sign-spec =
-    tie.close
-    (tie.spec
-    byte-requires
-    line-a-requires
-    line-s-requires
-    line-v-requires
-    line-j-requires
-    byte-requires-2
-    byte-requires-3
-    line-comma-requires
-    line-c-requires
-    line-d-requires
-    line-e-requires
-    byte-requires-4
-    byte-requires-5
-    byte-requires-6
-    returns
-    returns-2
-    returns-3
-    returns-4
-    returns-5
-    returns-6
-    returns-7
-    returns-8
-    returns-9
-    returns-10
-    returns-11
-    returns-12
-    returns-13
-    returns-14
-    returns-15
-    returns-16
-    returns-17
-    returns-18
-    returns-19
-    returns-20
-    returns-21)
+    tie.close (tie.spec (λ c κs. search needs) (λ c κs. search needs) (λ c κs. search needs) (λ c κs. search needs)
+    (λ c κs. search needs) (λ c κs. search needs) (λ c κs. search needs) (λ c κs. search needs) (λ c κs. search needs)
+    (λ c κs. search needs) (λ c κs. search needs) (λ c κs. search needs) (λ c κs. search needs) (λ c κs. search needs)
+    returns returns-2 returns-3 returns-4 returns-5 returns-6 returns-7 returns-8 returns-9 returns-10 returns-11
+    returns-12 returns-13 returns-14 returns-15 returns-16 returns-17 returns-18 returns-19 returns-20 returns-21)

@@ -5,15 +5,6 @@ use borrow.Author.Needs.{needs}
 use Rattle.guess.proofs.line_ss.Statement.{statement}
 use Rattle.guess.proofs.line_ss.Tie as tie
 
-byte-requires : tie.Need-byte-requires
-byte-requires c κs = search needs
-
-byte-requires-2 : tie.Need-byte-requires-2
-byte-requires-2 c κs = search needs
-
-byte-requires-3 : tie.Need-byte-requires-3
-byte-requires-3 c κs = search needs
-
 returns : tie.Need-returns
 unfolding told
 returns c = (rw (← c .before .byte .ensures, c .match .keys1), omega arith)
@@ -72,17 +63,5 @@ returns-9 c =
 
 pub line-ss-spec : {M : Type 1} → statement M
 line-ss-spec =
-    tie.close
-    (tie.spec
-    byte-requires
-    byte-requires-2
-    byte-requires-3
-    returns
-    returns-2
-    returns-3
-    returns-4
-    returns-5
-    returns-6
-    returns-7
-    returns-8
-    returns-9)
+    tie.close (tie.spec (λ c κs. search needs) (λ c κs. search needs) (λ c κs. search needs) returns returns-2
+    returns-3 returns-4 returns-5 returns-6 returns-7 returns-8 returns-9)

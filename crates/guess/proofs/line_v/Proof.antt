@@ -5,15 +5,6 @@ use borrow.Author.Needs.{needs}
 use Rattle.guess.proofs.line_v.Statement.{statement}
 use Rattle.guess.proofs.line_v.Tie as tie
 
-byte-requires : tie.Need-byte-requires
-byte-requires c κs = search needs
-
-line-vm-requires : tie.Need-line-vm-requires
-line-vm-requires c κs = search needs
-
-line-vi-requires : tie.Need-line-vi-requires
-line-vi-requires c κs = search needs
-
 returns : tie.Need-returns
 unfolding told
 returns c = (rw (← c .before .byte .ensures, c .match .keys1), omega arith)
@@ -36,5 +27,5 @@ returns-3 c =
 
 pub line-v-spec : {M : Type 1} → statement M
 line-v-spec =
-    tie.close
-    (tie.spec byte-requires line-vm-requires line-vi-requires returns returns-2 returns-3)
+    tie.close (tie.spec (λ c κs. search needs) (λ c κs. search needs) (λ c κs. search needs) returns returns-2
+    returns-3)

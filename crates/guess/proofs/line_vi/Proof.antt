@@ -5,15 +5,6 @@ use borrow.Author.Needs.{needs}
 use Rattle.guess.proofs.line_vi.Statement.{statement}
 use Rattle.guess.proofs.line_vi.Tie as tie
 
-byte-requires : tie.Need-byte-requires
-byte-requires c κs = search needs
-
-line-vs-requires : tie.Need-line-vs-requires
-line-vs-requires c κs = search needs
-
-line-vv-requires : tie.Need-line-vv-requires
-line-vv-requires c κs = search needs
-
 returns : tie.Need-returns
 unfolding told
 returns c = (rw (← c .before .before .byte .ensures, c .before .match .keys1) (c .line-vs .ensures .0), c .line-vs .ensures .1)
@@ -51,14 +42,5 @@ returns-6 c =
 
 pub line-vi-spec : {M : Type 1} → statement M
 line-vi-spec =
-    tie.close
-    (tie.spec
-    byte-requires
-    line-vs-requires
-    line-vv-requires
-    returns
-    returns-2
-    returns-3
-    returns-4
-    returns-5
-    returns-6)
+    tie.close (tie.spec (λ c κs. search needs) (λ c κs. search needs) (λ c κs. search needs) returns returns-2
+    returns-3 returns-4 returns-5 returns-6)

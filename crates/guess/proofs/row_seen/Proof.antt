@@ -6,20 +6,11 @@ use borrow.Author.Needs.{needs}
 use Rattle.guess.proofs.row_seen.Statement.{statement}
 use Rattle.guess.proofs.row_seen.Tie as tie
 
-byte-requires : tie.Need-byte-requires
-byte-requires c κs = search needs
-
-digit-row-requires : tie.Need-digit-row-requires
-digit-row-requires c κs = search needs
-
 returns : tie.Need-returns
 unfolding rowSeen
 returns c =
     let digit = octal _ (c .before .before .if1 .taken) (ltb-true _ _ (c .before .if2 .taken)) in
     (rw (← c .before .before .before .byte .ensures, digit) (c .digit-row .ensures .0), c .digit-row .ensures .1)
-
-line-sign-requires : tie.Need-line-sign-requires
-line-sign-requires c κs = search needs
 
 returns-2 : tie.Need-returns-2
 unfolding rowSeen
@@ -30,4 +21,4 @@ returns-2 c =
 
 pub row-seen-spec : {M : Type 1} → statement M
 row-seen-spec =
-    tie.close (tie.spec byte-requires digit-row-requires returns line-sign-requires returns-2)
+    tie.close (tie.spec (λ c κs. search needs) (λ c κs. search needs) returns (λ c κs. search needs) returns-2)

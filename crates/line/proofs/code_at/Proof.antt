@@ -4,18 +4,6 @@ use borrow.Author.Needs.{needs}
 use Rattle.line.proofs.code_at.Statement.{statement}
 use Rattle.line.proofs.code_at.Tie as tie
 
-mul-result : tie.Need-mul-result
-mul-result c = search needs
-
-add-result : tie.Need-add-result
-add-result c = search needs
-
-mul-result-2 : tie.Need-mul-result-2
-mul-result-2 c = search needs
-
-element-copy-out-result : tie.Need-element-copy-out-result
-element-copy-out-result c = search needs
-
 cast-result : tie.Need-cast-result
 cast-result c = let e = code-entry _ (c .before .args .row) (c .before .args .t) (c .before .pre .2) (c .before .pre .0) (c .before .pre .1) .1 in omega (arith, e)
 
@@ -24,5 +12,5 @@ returns c = code-entry _ (c .before .args .row) (c .before .args .t) (c .before 
 
 pub code-at-spec : {M : Type 1} → statement M
 code-at-spec =
-    tie.close
-    (tie.spec mul-result add-result mul-result-2 element-copy-out-result cast-result returns)
+    tie.close (tie.spec (λ c. search needs) (λ c. search needs) (λ c. search needs) (λ c. search needs) cast-result
+    returns)

@@ -4,18 +4,9 @@ use borrow.Author.Needs.{needs}
 use Rattle.line.proofs.decode.Statement.{statement}
 use Rattle.line.proofs.decode.Tie as tie
 
-code-at-requires : tie.Need-code-at-requires
-code-at-requires c κs = search needs
-
 returns : tie.Need-returns
 unfolding withCodes instructionBy
 returns c = simp (← c .before .code-at .ensures .0, eq-eqb _ _ (c .if1 .taken))
-
-operand-requires : tie.Need-operand-requires
-operand-requires c κs = search needs
-
-code-at-requires-2 : tie.Need-code-at-requires-2
-code-at-requires-2 c κs = search needs
 
 returns-2 : tie.Need-returns-2
 unfolding withCodes instructionBy
@@ -27,12 +18,6 @@ returns-2 c =
       eq-eqb _ _ (c .if2 .taken),
       c .before .before .operand .ensures,
     )
-
-operand-requires-2 : tie.Need-operand-requires-2
-operand-requires-2 c κs = search needs
-
-code-at-requires-3 : tie.Need-code-at-requires-3
-code-at-requires-3 c κs = search needs
 
 returns-3 : tie.Need-returns-3
 unfolding withCodes instructionBy
@@ -47,12 +32,6 @@ returns-3 c =
       c .before .before .before .before .before .operand .ensures,
       c .before .before .operand2 .ensures,
     )
-
-operand-requires-3 : tie.Need-operand-requires-3
-operand-requires-3 c κs = search needs
-
-code-at-requires-4 : tie.Need-code-at-requires-4
-code-at-requires-4 c κs = search needs
 
 returns-4 : tie.Need-returns-4
 unfolding withCodes instructionBy
@@ -70,9 +49,6 @@ returns-4 c =
       c .before .before .before .before .before .operand2 .ensures,
       c .before .before .operand3 .ensures,
     )
-
-operand-requires-4 : tie.Need-operand-requires-4
-operand-requires-4 c κs = search needs
 
 returns-5 : tie.Need-returns-5
 unfolding withCodes instructionBy
@@ -94,18 +70,6 @@ returns-5 c =
 
 pub decode-spec : {M : Type 1} → statement M
 decode-spec =
-    tie.close
-    (tie.spec
-    code-at-requires
-    returns
-    operand-requires
-    code-at-requires-2
-    returns-2
-    operand-requires-2
-    code-at-requires-3
-    returns-3
-    operand-requires-3
-    code-at-requires-4
-    returns-4
-    operand-requires-4
-    returns-5)
+    tie.close (tie.spec (λ c κs. search needs) returns (λ c κs. search needs) (λ c κs. search needs) returns-2
+    (λ c κs. search needs) (λ c κs. search needs) returns-3 (λ c κs. search needs) (λ c κs. search needs) returns-4
+    (λ c κs. search needs) returns-5)

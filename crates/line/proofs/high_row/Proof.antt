@@ -6,42 +6,6 @@ use borrow.Author.Needs.{needs}
 use Rattle.line.proofs.high_row.Statement.{statement}
 use Rattle.line.proofs.high_row.Tie as tie
 
-row-023-requires : tie.Need-row-023-requires
-row-023-requires c κs = search needs
-
-within-requires : tie.Need-within-requires
-within-requires c κs = search needs
-
-within-requires-2 : tie.Need-within-requires-2
-within-requires-2 c κs = search needs
-
-within-requires-3 : tie.Need-within-requires-3
-within-requires-3 c κs = search needs
-
-mul-within : tie.Need-mul-within
-mul-within c = search needs
-
-add-within : tie.Need-add-within
-add-within c = search needs
-
-within-requires-4 : tie.Need-within-requires-4
-within-requires-4 c κs = search needs
-
-within-requires-5 : tie.Need-within-requires-5
-within-requires-5 c κs = search needs
-
-within-requires-6 : tie.Need-within-requires-6
-within-requires-6 c κs = search needs
-
-within-requires-7 : tie.Need-within-requires-7
-within-requires-7 c κs = search needs
-
-within-requires-8 : tie.Need-within-requires-8
-within-requires-8 c κs = search needs
-
-plain-row-requires : tie.Need-plain-row-requires
-plain-row-requires c κs = search needs
-
 returns : tie.Need-returns
 unfolding rowBy
 returns c = rw (c .before .match .keys1) (c .row-023 .ensures)
@@ -98,29 +62,7 @@ returns-12 c =
 
 pub high-row-spec : {M : Type 1} → statement M
 high-row-spec =
-    tie.close
-    (tie.spec
-    row-023-requires
-    within-requires
-    within-requires-2
-    within-requires-3
-    mul-within
-    add-within
-    within-requires-4
-    within-requires-5
-    within-requires-6
-    within-requires-7
-    within-requires-8
-    plain-row-requires
-    returns
-    returns-2
-    returns-3
-    returns-4
-    returns-5
-    returns-6
-    returns-7
-    returns-8
-    returns-9
-    returns-10
-    returns-11
-    returns-12)
+    tie.close (tie.spec (λ c κs. search needs) (λ c κs. search needs) (λ c κs. search needs) (λ c κs. search needs)
+    (λ c. search needs) (λ c. search needs) (λ c κs. search needs) (λ c κs. search needs) (λ c κs. search needs)
+    (λ c κs. search needs) (λ c κs. search needs) (λ c κs. search needs) returns returns-2 returns-3 returns-4
+    returns-5 returns-6 returns-7 returns-8 returns-9 returns-10 returns-11 returns-12)

@@ -5,51 +5,6 @@ use borrow.Author.Needs.{needs}
 use Rattle.line.proofs.low_row.Statement.{statement}
 use Rattle.line.proofs.low_row.Tie as tie
 
-mul-within : tie.Need-mul-within
-mul-within c = search needs
-
-mul-within-2 : tie.Need-mul-within-2
-mul-within-2 c = search needs
-
-add-within : tie.Need-add-within
-add-within c = search needs
-
-add-within-2 : tie.Need-add-within-2
-add-within-2 c = search needs
-
-within-requires : tie.Need-within-requires
-within-requires c κs = search needs
-
-row-001-requires : tie.Need-row-001-requires
-row-001-requires c κs = search needs
-
-row-002-requires : tie.Need-row-002-requires
-row-002-requires c κs = search needs
-
-within-requires-2 : tie.Need-within-requires-2
-within-requires-2 c κs = search needs
-
-mul-within-3 : tie.Need-mul-within-3
-mul-within-3 c = search needs
-
-mul-within-4 : tie.Need-mul-within-4
-mul-within-4 c = search needs
-
-add-within-3 : tie.Need-add-within-3
-add-within-3 c = search needs
-
-add-within-4 : tie.Need-add-within-4
-add-within-4 c = search needs
-
-within-requires-3 : tie.Need-within-requires-3
-within-requires-3 c κs = search needs
-
-within-requires-4 : tie.Need-within-requires-4
-within-requires-4 c κs = search needs
-
-add-result : tie.Need-add-result
-add-result c = search needs
-
 returns : tie.Need-returns
 unfolding rowBy
 returns c = rw (c .before .match .keys1) (c .within .ensures)
@@ -102,33 +57,8 @@ returns-13 c = rw (row-low (c .before .before .args .c) _ _ _ (none-below _ 8 (c
 
 pub low-row-spec : {M : Type 1} → statement M
 low-row-spec =
-    tie.close
-    (tie.spec
-    mul-within
-    mul-within-2
-    add-within
-    add-within-2
-    within-requires
-    row-001-requires
-    row-002-requires
-    within-requires-2
-    mul-within-3
-    mul-within-4
-    add-within-3
-    add-within-4
-    within-requires-3
-    within-requires-4
-    add-result
-    returns
-    returns-2
-    returns-3
-    returns-4
-    returns-5
-    returns-6
-    returns-7
-    returns-8
-    returns-9
-    returns-10
-    returns-11
-    returns-12
-    returns-13)
+    tie.close (tie.spec (λ c. search needs) (λ c. search needs) (λ c. search needs) (λ c. search needs)
+    (λ c κs. search needs) (λ c κs. search needs) (λ c κs. search needs) (λ c κs. search needs) (λ c. search needs)
+    (λ c. search needs) (λ c. search needs) (λ c. search needs) (λ c κs. search needs) (λ c κs. search needs)
+    (λ c. search needs) returns returns-2 returns-3 returns-4 returns-5 returns-6 returns-7 returns-8 returns-9
+    returns-10 returns-11 returns-12 returns-13)

@@ -7,15 +7,6 @@ use borrow.Author.Needs.{needs}
 use Rattle.line.proofs.operand.Statement.{statement}
 use Rattle.line.proofs.operand.Tie as tie
 
-mul-v : tie.Need-mul-v
-mul-v c = search needs
-
-element-copy-out-v : tie.Need-element-copy-out-v
-element-copy-out-v c = search needs
-
-cast-t17 : tie.Need-cast-t17
-cast-t17 c = search needs
-
 returns : tie.Need-returns
 returns c =
     let l = c .before .before .args .code / 8 in
@@ -24,14 +15,8 @@ returns c =
 returns-2 : tie.Need-returns-2
 returns-2 c = simp (eq-eqb _ _ (c .if2 .taken))
 
-element-copy-out-t29 : tie.Need-element-copy-out-t29
-element-copy-out-t29 c = search needs
-
 returns-3 : tie.Need-returns-3
 returns-3 c = simp (ne-eqb _ _ (c .before .before .if2 .left), eq-eqb _ _ (c .before .if3 .taken))
-
-sub-t33 : tie.Need-sub-t33
-sub-t33 c = search needs
 
 returns-4 : tie.Need-returns-4
 returns-4 c =
@@ -48,15 +33,5 @@ returns-5 c =
 
 pub operand-spec : {M : Type 1} → statement M
 operand-spec =
-    tie.close
-    (tie.spec
-    mul-v
-    element-copy-out-v
-    cast-t17
-    returns
-    returns-2
-    element-copy-out-t29
-    returns-3
-    sub-t33
-    returns-4
-    returns-5)
+    tie.close (tie.spec (λ c. search needs) (λ c. search needs) (λ c. search needs) returns returns-2
+    (λ c. search needs) returns-3 (λ c. search needs) returns-4 returns-5)

@@ -10,20 +10,11 @@ use borrow.Author.Needs.{needs}
 use Rattle.line.proofs.put_few.Statement.{statement}
 use Rattle.line.proofs.put_few.Tie as tie
 
-digit-requires : tie.Need-digit-requires
-digit-requires c κs = search needs
-
 slice-write-line : tie.Need-slice-write-line
 slice-write-line c =
     let s = c .before .before .before .before in
     let long = ap length (shown-one (s .args .n) (c .before .if2 .taken)) in
     omega (arith, long, s .pre)
-
-add-result : tie.Need-add-result
-add-result c = search needs
-
-same-length : tie.Need-same-length
-same-length c = search needs
 
 returns : tie.Need-returns
 returns c = let n = c .before .before .before .before .args .n in wrote-as (shown-one n (c .before .if2 .taken)) (wrote-digit n _ (c .digit .ensures))
@@ -35,28 +26,16 @@ put-two-digits-requires c κs =
     let long = ap length (shown-two n (c .before .if2 .left) (c .before .before .if1 .taken)) ∙ digits-length 8 2 n in
     omega (arith, long, s .pre)
 
-add-result-2 : tie.Need-add-result-2
-add-result-2 c = search needs
-
-same-length-2 : tie.Need-same-length-2
-same-length-2 c = search needs
-
 returns-2 : tie.Need-returns-2
 returns-2 c =
     let n = c .before .before .before .before .before .before .before .args .n in
     wrote-as (shown-two n (c .before .before .before .before .if2 .left) (c .before .before .before .before .before .if1 .taken)) (c .before .before .put-two-digits .ensures)
-
-digit-requires-2 : tie.Need-digit-requires-2
-digit-requires-2 c κs = search needs
 
 slice-write-line-2 : tie.Need-slice-write-line-2
 slice-write-line-2 c =
     let s = c .before .before .before .before in
     let long = long-more (s .args .n) (c .before .before .if1 .left) in
     omega (arith, long, s .pre)
-
-add-put-two-digits : tie.Need-add-put-two-digits
-add-put-two-digits c = search needs
 
 put-two-digits-requires-2 : tie.Need-put-two-digits-requires-2
 put-two-digits-requires-2 c κs =
@@ -65,9 +44,6 @@ put-two-digits-requires-2 c κs =
     let long = long-more n (c .before .before .before .if1 .left) in
     let one = ap length (shown-one (n / 64) (omega arith)) in
     simp length-set (omega (arith, long, one, s .pre))
-
-add-result-3 : tie.Need-add-result-3
-add-result-3 c = search needs
 
 same-length-3 : tie.Need-same-length-3
 same-length-3 c =
@@ -87,9 +63,6 @@ put-two-digits-requires-3 c κs =
     let long = long-more (s .args .n) (c .before .before .if1 .left) in
     omega (arith, long, s .pre)
 
-add-put-two-digits-2 : tie.Need-add-put-two-digits-2
-add-put-two-digits-2 c = search needs
-
 put-two-digits-requires-4 : tie.Need-put-two-digits-requires-4
 put-two-digits-requires-4 c κs =
     let s = c .before .before .before .before .before .before .before .before in
@@ -97,12 +70,6 @@ put-two-digits-requires-4 c κs =
     let long = long-more n (c .before .before .before .before .before .before .if1 .left) in
     let two = ap length (shown-two (n / 64) (omega arith) (omega arith)) ∙ digits-length 8 2 (n / 64) in
     omega (arith, long, two, c .before .before .before .put-two-digits3 .kept .0, s .pre)
-
-add-result-4 : tie.Need-add-result-4
-add-result-4 c = search needs
-
-same-length-4 : tie.Need-same-length-4
-same-length-4 c = search needs
 
 returns-4 : tie.Need-returns-4
 returns-4 c =
@@ -114,27 +81,8 @@ returns-4 c =
 
 pub put-few-spec : {M : Type 1} → statement M
 put-few-spec =
-    tie.close
-    (tie.spec
-    digit-requires
-    slice-write-line
-    add-result
-    same-length
-    returns
-    put-two-digits-requires
-    add-result-2
-    same-length-2
-    returns-2
-    digit-requires-2
-    slice-write-line-2
-    add-put-two-digits
-    put-two-digits-requires-2
-    add-result-3
-    same-length-3
-    returns-3
-    put-two-digits-requires-3
-    add-put-two-digits-2
-    put-two-digits-requires-4
-    add-result-4
-    same-length-4
+    tie.close (tie.spec (λ c κs. search needs) slice-write-line (λ c. search needs) (λ c. search needs) returns
+    put-two-digits-requires (λ c. search needs) (λ c. search needs) returns-2 (λ c κs. search needs)
+    slice-write-line-2 (λ c. search needs) put-two-digits-requires-2 (λ c. search needs) same-length-3 returns-3
+    put-two-digits-requires-3 (λ c. search needs) put-two-digits-requires-4 (λ c. search needs) (λ c. search needs)
     returns-4)

@@ -5,9 +5,6 @@ use borrow.Author.Needs.{needs}
 use Rattle.line.proofs.put_instruction.Statement.{statement}
 use Rattle.line.proofs.put_instruction.Tie as tie
 
-enum-known-ins : tie.Need-enum-known-ins
-enum-known-ins c = search needs
-
 mul-put-signs : tie.Need-mul-put-signs
 unfolding rowIn
 mul-put-signs c = omega (arith, row-inside (c .before .before .before .before .before .pre) (c .before .before .ins .given .1))
@@ -15,9 +12,6 @@ mul-put-signs c = omega (arith, row-inside (c .before .before .before .before .b
 put-signs-requires : tie.Need-put-signs-requires
 unfolding rowIn
 put-signs-requires c κs = signs-fit (c .before .before .before .before .before .pre) (c .before .before .ins .given .1)
-
-enum-known-ins-2 : tie.Need-enum-known-ins-2
-enum-known-ins-2 c = search needs
 
 mul-put-signs-2 : tie.Need-mul-put-signs-2
 unfolding rowIn
@@ -35,9 +29,6 @@ put-part-requires c κs =
     let t = c0 .put-signs2 in
     let s0 = spelling (e .before .before .before .pre) (e .ins2 .given .1) (t .result .from) (t .ensures) (t .kept .0) in
     part-fits s0
-
-enum-known-ins-3 : tie.Need-enum-known-ins-3
-enum-known-ins-3 c = search needs
 
 mul-put-signs-3 : tie.Need-mul-put-signs-3
 unfolding rowIn
@@ -66,9 +57,6 @@ put-part-requires-3 c κs =
     let s0 = spelling (e .before .before .before .pre) (e .ins3 .given .1) (t .result .from) (t .ensures) (t .kept .0) in
     let s1 = part-next (c1 .put-part2 .result .from) s0 (c1 .put-part2 .ensures) (c1 .put-part2 .kept .0) in
     part-fits s1
-
-enum-known-ins-4 : tie.Need-enum-known-ins-4
-enum-known-ins-4 c = search needs
 
 mul-put-signs-4 : tie.Need-mul-put-signs-4
 unfolding rowIn
@@ -110,9 +98,6 @@ put-part-requires-6 c κs =
     let s1 = part-next (c1 .put-part4 .result .from) s0 (c1 .put-part4 .ensures) (c1 .put-part4 .kept .0) in
     let s2 = part-next (c2 .put-part5 .result .from) s1 (c2 .put-part5 .ensures) (c2 .put-part5 .kept .0) in
     part-fits s2
-
-enum-known-ins-5 : tie.Need-enum-known-ins-5
-enum-known-ins-5 c = search needs
 
 mul-put-signs-5 : tie.Need-mul-put-signs-5
 unfolding rowIn
@@ -170,9 +155,6 @@ put-part-requires-10 c κs =
     let s3 = part-next (c3 .put-part9 .result .from) s2 (c3 .put-part9 .ensures) (c3 .put-part9 .kept .0) in
     part-fits s3
 
-same-length : tie.Need-same-length
-same-length c = search needs
-
 returns : tie.Need-returns
 unfolding rowIn operandsHeld
 returns c =
@@ -181,9 +163,6 @@ returns c =
     let t = c0 .put-signs in
     let s0 = spelling (e .before .before .before .pre) (e .ins .given .1) (t .result .from) (t .ensures) (t .kept .0) in
     all-parts s0
-
-same-length-2 : tie.Need-same-length-2
-same-length-2 c = search needs
 
 returns-2 : tie.Need-returns-2
 unfolding rowIn operandsHeld
@@ -195,9 +174,6 @@ returns-2 c =
     let s0 = spelling (e .before .before .before .pre) (e .ins2 .given .1) (t .result .from) (t .ensures) (t .kept .0) in
     let s1 = part-next (c1 .put-part .result .from) s0 (c1 .put-part .ensures) (c1 .put-part .kept .0) in
     all-parts s1
-
-same-length-3 : tie.Need-same-length-3
-same-length-3 c = search needs
 
 returns-3 : tie.Need-returns-3
 unfolding rowIn operandsHeld
@@ -211,9 +187,6 @@ returns-3 c =
     let s1 = part-next (c1 .put-part2 .result .from) s0 (c1 .put-part2 .ensures) (c1 .put-part2 .kept .0) in
     let s2 = part-next (c2 .put-part3 .result .from) s1 (c2 .put-part3 .ensures) (c2 .put-part3 .kept .0) in
     all-parts s2
-
-same-length-4 : tie.Need-same-length-4
-same-length-4 c = search needs
 
 returns-4 : tie.Need-returns-4
 unfolding rowIn operandsHeld
@@ -229,9 +202,6 @@ returns-4 c =
     let s2 = part-next (c2 .put-part5 .result .from) s1 (c2 .put-part5 .ensures) (c2 .put-part5 .kept .0) in
     let s3 = part-next (c3 .put-part6 .result .from) s2 (c3 .put-part6 .ensures) (c3 .put-part6 .kept .0) in
     all-parts s3
-
-same-length-5 : tie.Need-same-length-5
-same-length-5 c = search needs
 
 returns-5 : tie.Need-returns-5
 unfolding rowIn operandsHeld
@@ -252,40 +222,10 @@ returns-5 c =
 
 pub put-instruction-spec : {M : Type 1} → statement M
 put-instruction-spec =
-    tie.close
-    (tie.spec
-    enum-known-ins
-    mul-put-signs
-    put-signs-requires
-    enum-known-ins-2
-    mul-put-signs-2
-    put-signs-requires-2
-    put-part-requires
-    enum-known-ins-3
-    mul-put-signs-3
-    put-signs-requires-3
-    put-part-requires-2
-    put-part-requires-3
-    enum-known-ins-4
-    mul-put-signs-4
-    put-signs-requires-4
-    put-part-requires-4
-    put-part-requires-5
-    put-part-requires-6
-    enum-known-ins-5
-    mul-put-signs-5
-    put-signs-requires-5
-    put-part-requires-7
-    put-part-requires-8
-    put-part-requires-9
-    put-part-requires-10
-    same-length
-    returns
-    same-length-2
-    returns-2
-    same-length-3
-    returns-3
-    same-length-4
-    returns-4
-    same-length-5
-    returns-5)
+    tie.close (tie.spec (λ c. search needs) mul-put-signs put-signs-requires (λ c. search needs) mul-put-signs-2
+    put-signs-requires-2 put-part-requires (λ c. search needs) mul-put-signs-3 put-signs-requires-3
+    put-part-requires-2 put-part-requires-3 (λ c. search needs) mul-put-signs-4 put-signs-requires-4
+    put-part-requires-4 put-part-requires-5 put-part-requires-6 (λ c. search needs) mul-put-signs-5
+    put-signs-requires-5 put-part-requires-7 put-part-requires-8 put-part-requires-9 put-part-requires-10
+    (λ c. search needs) returns (λ c. search needs) returns-2 (λ c. search needs) returns-3 (λ c. search needs)
+    returns-4 (λ c. search needs) returns-5)

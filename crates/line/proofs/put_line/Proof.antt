@@ -19,9 +19,6 @@ put-data-requires c κs =
     let long = ap length e ∙ data-length (a .x) in
     (omega (arith, long, p .0), p .2)
 
-same-length : tie.Need-same-length
-same-length c = search needs
-
 returns : tie.Need-returns
 returns c =
     let a = c .before .before .before .before .before .before .args in
@@ -29,9 +26,6 @@ returns c =
     let w = c .before .before .put-data .ensures in
     let e = line-of-none (a .x) (a .m) (p .2) (eq-eqb _ _ (sym (p .1) ∙ c .before .before .before .before .if1 .taken)) in
     (wrote-as e (w .0), omega (arith, w .1), omega (arith, w .1))
-
-fields-requires : tie.Need-fields-requires
-fields-requires c κs = search needs
 
 decode-requires : tie.Need-decode-requires
 decode-requires c κs =
@@ -46,9 +40,6 @@ put-instruction-requires c κs =
     let made = c .before .decode .ensures ∙ ap (instructionBy (a .row)) (c .before .before .before .fields .ensures) in
     line-ready (a .x) (a .m) (a .row) _ _ (p .2) (p .1) (p .4) made (c .before .before .before .before .if1 .left) (p .3) (p .0)
 
-same-length-2 : tie.Need-same-length-2
-same-length-2 c = search needs
-
 returns-2 : tie.Need-returns-2
 returns-2 c =
     let a = c .before .before .before .before .before .before .before .before .before .args in
@@ -61,13 +52,5 @@ returns-2 c =
 
 pub put-line-spec : {M : Type 1} → statement M
 put-line-spec =
-    tie.close
-    (tie.spec
-    put-data-requires
-    same-length
-    returns
-    fields-requires
-    decode-requires
-    put-instruction-requires
-    same-length-2
-    returns-2)
+    tie.close (tie.spec put-data-requires (λ c. search needs) returns (λ c κs. search needs) decode-requires
+    put-instruction-requires (λ c. search needs) returns-2)

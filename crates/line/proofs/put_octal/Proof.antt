@@ -5,15 +5,6 @@ use borrow.Author.Needs.{needs}
 use Rattle.line.proofs.put_octal.Statement.{statement}
 use Rattle.line.proofs.put_octal.Tie as tie
 
-put-few-requires : tie.Need-put-few-requires
-put-few-requires c κs = search needs
-
-same-length : tie.Need-same-length
-same-length c = search needs
-
-returns : tie.Need-returns
-returns c = search needs
-
 put-few-requires-2 : tie.Need-put-few-requires-2
 put-few-requires-2 c κs =
     let s = c .before .before .before in
@@ -46,9 +37,6 @@ add-result c =
     let long = long-many (s .args .n) (c .before .before .before .before .before .before .before .before .before .before .before .before .if1 .left) in
     omega (arith, long, c .before .before .before .before .before .before .before .before .before .before .put-few2 .ensures .place, s)
 
-same-length-2 : tie.Need-same-length-2
-same-length-2 c = search needs
-
 returns-2 : tie.Need-returns-2
 returns-2 c =
     let few = c .before .before .before .before .before .before .before .before .before .before .put-few2 .ensures in
@@ -60,15 +48,5 @@ returns-2 c =
 
 pub put-octal-spec : {M : Type 1} → statement M
 put-octal-spec =
-    tie.close
-    (tie.spec
-    put-few-requires
-    same-length
-    returns
-    put-few-requires-2
-    put-two-digits-requires
-    add-put-two-digits
-    put-two-digits-requires-2
-    add-result
-    same-length-2
-    returns-2)
+    tie.close (tie.spec (λ c κs. search needs) (λ c. search needs) (λ c. search needs) put-few-requires-2
+    put-two-digits-requires add-put-two-digits put-two-digits-requires-2 add-result (λ c. search needs) returns-2)

@@ -19,13 +19,10 @@ put-signs-requires c κs =
     let o = c .before .before .before .put-operand in
     (p .0, room-then _ (o .ensures) (o .kept .0) (p .2), p .3)
 
-same-length : tie.Need-same-length
-same-length c = search needs
-
 returns : tie.Need-returns
 returns c =
     let signs = c .before .before .put-signs .ensures in
     (then (c .before .before .before .before .before .before .put-operand .ensures) (signs .0), signs .1)
 
 pub put-part-spec : {M : Type 1} → statement M
-put-part-spec = tie.close (tie.spec put-operand-requires put-signs-requires same-length returns)
+put-part-spec = tie.close (tie.spec put-operand-requires put-signs-requires (λ c. search needs) returns)

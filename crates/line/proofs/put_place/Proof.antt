@@ -30,9 +30,6 @@ slice-write-line-2 c =
     let o = c .before .before .put-octal in
     simp length-set (omega (arith, long, o .ensures .place, o .kept .0, s .pre))
 
-digit-requires : tie.Need-digit-requires
-digit-requires c κs = search needs
-
 add-line-2 : tie.Need-add-line-2
 add-line-2 c =
     let s = c .before .before .before .before .before .before in
@@ -52,9 +49,6 @@ add-result c =
     let long = place-long (s .args .offset) (s .args .register) (s .pre .0 .1) in
     omega (arith, long, c .before .before .before .put-octal .ensures .place, s)
 
-same-length : tie.Need-same-length
-same-length c = search needs
-
 returns : tie.Need-returns
 returns c =
     let s = c .before .before .before .before .before .before in
@@ -62,15 +56,5 @@ returns c =
 
 pub put-place-spec : {M : Type 1} → statement M
 put-place-spec =
-    tie.close
-    (tie.spec
-    put-octal-requires
-    slice-write-line
-    add-line
-    slice-write-line-2
-    digit-requires
-    add-line-2
-    slice-write-line-3
-    add-result
-    same-length
-    returns)
+    tie.close (tie.spec put-octal-requires slice-write-line add-line slice-write-line-2 (λ c κs. search needs)
+    add-line-2 slice-write-line-3 add-result (λ c. search needs) returns)

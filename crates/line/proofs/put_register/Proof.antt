@@ -13,23 +13,11 @@ slice-write-line c =
     let long = register-long (s .args .letter) (s .args .number) {wide = s .args .wide} refl in
     omega (arith, long, s .pre)
 
-digit-requires : tie.Need-digit-requires
-digit-requires c κs = search needs
-
-add-line : tie.Need-add-line
-add-line c = search needs
-
 slice-write-line-2 : tie.Need-slice-write-line-2
 slice-write-line-2 c =
     let s = c .before .before .before in
     let long = register-long (s .args .letter) (s .args .number) (c .before .if1 .taken) in
     simp length-set (omega (arith, long, s .pre))
-
-digit-requires-2 : tie.Need-digit-requires-2
-digit-requires-2 c κs = search needs
-
-add-line-2 : tie.Need-add-line-2
-add-line-2 c = search needs
 
 slice-write-line-3 : tie.Need-slice-write-line-3
 slice-write-line-3 c =
@@ -37,34 +25,16 @@ slice-write-line-3 c =
     let long = register-long (s .args .letter) (s .args .number) (c .before .before .if1 .taken) in
     simp length-set (omega (arith, long, s .pre))
 
-add-result : tie.Need-add-result
-add-result c = search needs
-
-same-length : tie.Need-same-length
-same-length c = search needs
-
 returns : tie.Need-returns
 returns c =
     let a = c .before .before .before .before .args in
     wrote-register (a .letter) (a .number) (c .before .before .if1 .taken) (placed (wrote-two (a .number) _ _ (omega arith) (c .before .digit .ensures) (c .digit2 .ensures)) (omega arith))
-
-digit-requires-3 : tie.Need-digit-requires-3
-digit-requires-3 c κs = search needs
-
-add-line-3 : tie.Need-add-line-3
-add-line-3 c = search needs
 
 slice-write-line-4 : tie.Need-slice-write-line-4
 slice-write-line-4 c =
     let s = c .before .before .before in
     let long = register-long (s .args .letter) (s .args .number) (c .before .if1 .left) in
     simp length-set (omega (arith, long, s .pre))
-
-add-result-2 : tie.Need-add-result-2
-add-result-2 c = search needs
-
-same-length-2 : tie.Need-same-length-2
-same-length-2 c = search needs
 
 returns-2 : tie.Need-returns-2
 unfolding digits
@@ -74,21 +44,6 @@ returns-2 c =
 
 pub put-register-spec : {M : Type 1} → statement M
 put-register-spec =
-    tie.close
-    (tie.spec
-    slice-write-line
-    digit-requires
-    add-line
-    slice-write-line-2
-    digit-requires-2
-    add-line-2
-    slice-write-line-3
-    add-result
-    same-length
-    returns
-    digit-requires-3
-    add-line-3
-    slice-write-line-4
-    add-result-2
-    same-length-2
-    returns-2)
+    tie.close (tie.spec slice-write-line (λ c κs. search needs) (λ c. search needs) slice-write-line-2
+    (λ c κs. search needs) (λ c. search needs) slice-write-line-3 (λ c. search needs) (λ c. search needs) returns
+    (λ c κs. search needs) (λ c. search needs) slice-write-line-4 (λ c. search needs) (λ c. search needs) returns-2)

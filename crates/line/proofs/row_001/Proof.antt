@@ -4,21 +4,6 @@ use borrow.Author.Needs.{needs}
 use Rattle.line.proofs.row_001.Statement.{statement}
 use Rattle.line.proofs.row_001.Tie as tie
 
-mul-if1 : tie.Need-mul-if1
-mul-if1 c = search needs
-
-add-if1 : tie.Need-add-if1
-add-if1 c = search needs
-
-within-requires : tie.Need-within-requires
-within-requires c κs = search needs
-
-within-requires-2 : tie.Need-within-requires-2
-within-requires-2 c κs = search needs
-
-row-0014-requires : tie.Need-row-0014-requires
-row-0014-requires c κs = search needs
-
 returns : tie.Need-returns
 unfolding row001
 returns c = rw (c .before .match .keys1, eq-eqb _ _ (c .if1 .taken))
@@ -57,17 +42,5 @@ returns-7 c =
 
 pub row-001-spec : {M : Type 1} → statement M
 row-001-spec =
-    tie.close
-    (tie.spec
-    mul-if1
-    add-if1
-    within-requires
-    within-requires-2
-    row-0014-requires
-    returns
-    returns-2
-    returns-3
-    returns-4
-    returns-5
-    returns-6
-    returns-7)
+    tie.close (tie.spec (λ c. search needs) (λ c. search needs) (λ c κs. search needs) (λ c κs. search needs)
+    (λ c κs. search needs) returns returns-2 returns-3 returns-4 returns-5 returns-6 returns-7)

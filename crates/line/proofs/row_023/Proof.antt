@@ -8,12 +8,6 @@ returns : tie.Need-returns
 unfolding row023
 returns c = rw (c .if1 .taken)
 
-mul-if2 : tie.Need-mul-if2
-mul-if2 c = search needs
-
-add-if2 : tie.Need-add-if2
-add-if2 c = search needs
-
 returns-2 : tie.Need-returns-2
 unfolding row023
 returns-2 c = simp (ne-eqb _ _ (c .before .if1 .left), eq-eqb _ _ (c .if2 .taken))
@@ -23,4 +17,4 @@ unfolding row023
 returns-3 c = simp (ne-eqb _ _ (c .before .if1 .left), ne-eqb _ _ (c .if2 .left))
 
 pub row-023-spec : {M : Type 1} → statement M
-row-023-spec = tie.close (tie.spec returns mul-if2 add-if2 returns-2 returns-3)
+row-023-spec = tie.close (tie.spec returns (λ c. search needs) (λ c. search needs) returns-2 returns-3)

@@ -4,12 +4,6 @@ use borrow.Author.Needs.{needs}
 use Rattle.line.proofs.row_of.Statement.{statement}
 use Rattle.line.proofs.row_of.Tie as tie
 
-low-row-requires : tie.Need-low-row-requires
-low-row-requires c κs = search needs
-
-high-row-requires : tie.Need-high-row-requires
-high-row-requires c κs = search needs
-
 returns : tie.Need-returns
 unfolding rowOf
 returns c = (c .low-row .ensures, rw (c .low-row .ensures) (row-small (c .before .before .args .x) (c .before .before .pre)))
@@ -19,4 +13,4 @@ unfolding rowOf
 returns-2 c = (c .high-row .ensures, rw (c .high-row .ensures) (row-small (c .before .before .args .x) (c .before .before .pre)))
 
 pub row-of-spec : {M : Type 1} → statement M
-row-of-spec = tie.close (tie.spec low-row-requires high-row-requires returns returns-2)
+row-of-spec = tie.close (tie.spec (λ c κs. search needs) (λ c κs. search needs) returns returns-2)

@@ -4,9 +4,6 @@ use borrow.Author.Needs.{needs}
 use Rattle.line.proofs.within.Statement.{statement}
 use Rattle.line.proofs.within.Tie as tie
 
-add-result : tie.Need-add-result
-add-result c = search needs
-
 returns : tie.Need-returns
 unfolding within
 returns c = simp (lt-ltb _ _ (c .if1 .taken))
@@ -16,4 +13,4 @@ unfolding within
 returns-2 c = simp (le-ltb _ _ (c .if1 .left))
 
 pub within-spec : {M : Type 1} → statement M
-within-spec = tie.close (tie.spec add-result returns returns-2)
+within-spec = tie.close (tie.spec (λ c. search needs) returns returns-2)

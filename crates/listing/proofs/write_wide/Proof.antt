@@ -29,9 +29,6 @@ part-write-line-end c = omega arith
 add-write-line : tie.Need-add-write-line Inv-loop μ-loop
 add-write-line c = omega arith
 
-write-line-requires : tie.Need-write-line-requires Inv-loop μ-loop
-write-line-requires c κs = search needs
-
 add-at : tie.Need-add-at Inv-loop μ-loop
 add-at c = omega arith
 
@@ -46,18 +43,5 @@ returns c = omega arith
 
 pub write-wide-spec : {M : Type 1} → statement M
 write-wide-spec =
-    tie.close
-    (tie.spec
-    Inv-loop
-    μ-loop
-    loop-holds
-    mul-write-line
-    sub-write-line
-    part-write-line-start
-    part-write-line-end
-    add-write-line
-    write-line-requires
-    add-at
-    loop-less
-    loop-again
-    returns)
+    tie.close (tie.spec Inv-loop μ-loop loop-holds mul-write-line sub-write-line part-write-line-start
+    part-write-line-end add-write-line (λ c κs. search needs) add-at loop-less loop-again returns)

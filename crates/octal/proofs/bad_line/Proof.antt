@@ -40,9 +40,6 @@ add-digit-of c = omega arith
 shared-slice-read-digit-of : tie.Need-shared-slice-read-digit-of Inv-loop μ-loop Inv-lines μ-lines
 shared-slice-read-digit-of c = omega arith
 
-digit-of-requires : tie.Need-digit-of-requires Inv-loop μ-loop Inv-lines μ-lines
-digit-of-requires c κs = search needs
-
 mul-p : tie.Need-mul-p Inv-loop μ-loop Inv-lines μ-lines
 mul-p c =
     omega (arith, digits-most 8 _ _ 6 (lit< tt) (c .before .before .before .before .loop .inv .1) (c .before .before .before .before .loop .inv .0))
@@ -116,31 +113,6 @@ returns-5 c =
 
 pub bad-line-spec : {M : Type 1} → statement M
 bad-line-spec =
-    tie.close
-    (tie.spec
-    Inv-loop
-    μ-loop
-    Inv-lines
-    μ-lines
-    lines-holds
-    sub-if2
-    loop-holds
-    add-digit-of
-    shared-slice-read-digit-of
-    digit-of-requires
-    mul-p
-    add-p
-    add-d
-    loop-less
-    loop-again
-    add-if4
-    shared-slice-read-if4
-    add-at
-    add-line
-    lines-less
-    lines-again
-    returns
-    returns-2
-    returns-3
-    returns-4
-    returns-5)
+    tie.close (tie.spec Inv-loop μ-loop Inv-lines μ-lines lines-holds sub-if2 loop-holds add-digit-of
+    shared-slice-read-digit-of (λ c κs. search needs) mul-p add-p add-d loop-less loop-again add-if4
+    shared-slice-read-if4 add-at add-line lines-less lines-again returns returns-2 returns-3 returns-4 returns-5)

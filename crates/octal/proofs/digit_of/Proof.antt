@@ -6,18 +6,12 @@ use borrow.Author.Needs.{needs}
 use Rattle.octal.proofs.digit_of.Statement.{statement}
 use Rattle.octal.proofs.digit_of.Tie as tie
 
-is-within-requires : tie.Need-is-within-requires
-is-within-requires c κs = search needs
-
 sub-result : tie.Need-sub-result
 sub-result c = omega (arith, range _ _ _ (sym (c .before .is-within .ensures) ∙ c .if1 .taken))
 
 returns : tie.Need-returns
 unfolding digitOf
 returns c = (rw (← c .before .is-within .ensures, c .if1 .taken), omega (arith, range _ _ _ (sym (c .before .is-within .ensures) ∙ c .if1 .taken)))
-
-is-within-requires-2 : tie.Need-is-within-requires-2
-is-within-requires-2 c κs = search needs
 
 sub-result-2 : tie.Need-sub-result-2
 sub-result-2 c = omega (arith, range _ _ _ (sym (c .before .is-within2 .ensures) ∙ c .if2 .taken))
@@ -28,9 +22,6 @@ returns-2 c = (
   rw (← c .before .before .before .is-within .ensures, c .before .before .if1 .left, ← c .before .is-within2 .ensures, c .if2 .taken),
   omega (arith, range _ _ _ (sym (c .before .is-within2 .ensures) ∙ c .if2 .taken)),
 )
-
-is-within-requires-3 : tie.Need-is-within-requires-3
-is-within-requires-3 c κs = search needs
 
 sub-result-3 : tie.Need-sub-result-3
 sub-result-3 c = omega (arith, range _ _ _ (sym (c .before .is-within3 .ensures) ∙ c .if3 .taken))
@@ -67,15 +58,5 @@ returns-4 c = (
 
 pub digit-of-spec : {M : Type 1} → statement M
 digit-of-spec =
-    tie.close
-    (tie.spec
-    is-within-requires
-    sub-result
-    returns
-    is-within-requires-2
-    sub-result-2
-    returns-2
-    is-within-requires-3
-    sub-result-3
-    returns-3
-    returns-4)
+    tie.close (tie.spec (λ c κs. search needs) sub-result returns (λ c κs. search needs) sub-result-2 returns-2
+    (λ c κs. search needs) sub-result-3 returns-3 returns-4)

@@ -28,9 +28,6 @@ add-digit-of c = omega arith
 shared-slice-read-digit-of : tie.Need-shared-slice-read-digit-of Inv-loop μ-loop
 shared-slice-read-digit-of c = omega arith
 
-digit-of-requires : tie.Need-digit-of-requires Inv-loop μ-loop
-digit-of-requires c κs = search needs
-
 add-p : tie.Need-add-p Inv-loop μ-loop
 add-p c = omega (arith, digits-most 17 _ _ 6 (lit< tt) (c .before .before .before .loop .inv .1) (c .before .before .before .loop .inv .0))
 
@@ -53,17 +50,5 @@ returns c = sym (c .before .loop .inv .2 ∙ number-done 8 _ 6 _ _ (c .loop-test
 
 pub parcel-at-spec : {M : Type 1} → statement M
 parcel-at-spec =
-    tie.close
-    (tie.spec
-    Inv-loop
-    μ-loop
-    loop-holds
-    mul-p
-    add-digit-of
-    shared-slice-read-digit-of
-    digit-of-requires
-    add-p
-    add-d
-    loop-less
-    loop-again
-    returns)
+    tie.close (tie.spec Inv-loop μ-loop loop-holds mul-p add-digit-of shared-slice-read-digit-of
+    (λ c κs. search needs) add-p add-d loop-less loop-again returns)

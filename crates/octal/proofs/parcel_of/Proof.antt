@@ -6,12 +6,6 @@ use borrow.Author.Needs.{needs}
 use Rattle.octal.proofs.parcel_of.Statement.{statement}
 use Rattle.octal.proofs.parcel_of.Tie as tie
 
-mul-result : tie.Need-mul-result
-mul-result c = search needs
-
-shared-slice-read-result : tie.Need-shared-slice-read-result
-shared-slice-read-result c = search needs
-
 cast-result : tie.Need-cast-result
 cast-result c = omega (arith, c .shared-slice-known .given (c .before .before .args .i))
 
@@ -22,5 +16,4 @@ returns-2 : tie.Need-returns-2
 returns-2 c = (sym (List·getD-eq-default (now (c .before .args .parcels)) 0 (c .if1 .left)), omega arith)
 
 pub parcel-of-spec : {M : Type 1} → statement M
-parcel-of-spec =
-    tie.close (tie.spec mul-result shared-slice-read-result cast-result returns returns-2)
+parcel-of-spec = tie.close (tie.spec (λ c. search needs) (λ c. search needs) cast-result returns returns-2)

@@ -5,18 +5,6 @@ use borrow.Author.Needs.{needs}
 use Rattle.octal.proofs.put_refused_line.Statement.{statement}
 use Rattle.octal.proofs.put_refused_line.Tie as tie
 
-put-refused-requires : tie.Need-put-refused-requires
-put-refused-requires c κs = search needs
-
-slice-aggregate-put-line : tie.Need-slice-aggregate-put-line
-slice-aggregate-put-line c = search needs
-
-put-line-requires : tie.Need-put-line-requires
-put-line-requires c κs = search needs
-
-same-length : tie.Need-same-length
-same-length c = search needs
-
 returns : tie.Need-returns
 unfolding refusedLine
 returns c = (
@@ -26,5 +14,4 @@ returns c = (
 
 pub put-refused-line-spec : {M : Type 1} → statement M
 put-refused-line-spec =
-    tie.close
-    (tie.spec put-refused-requires slice-aggregate-put-line put-line-requires same-length returns)
+    tie.close (tie.spec (λ c κs. search needs) (λ c. search needs) (λ c κs. search needs) (λ c. search needs) returns)

@@ -22,9 +22,6 @@ Inv-loop parcels address out₀ n at₀ k₀ out at k =
 abbrev μ-loop : tie.MeasureT-loop
 μ-loop parcels address out₀ n at₀ k₀ out at k = n - k
 
-words-for-requires : tie.Need-words-for-requires Inv-loop μ-loop
-words-for-requires c κs = search needs
-
 loop-holds : tie.Need-loop-holds Inv-loop μ-loop
 loop-holds c = (omega arith, refl, omega arith, λ m q w. simp (add-zero, sub-zero) at w)
 
@@ -33,12 +30,6 @@ add-put-word c = omega arith
 
 mul-word-at : tie.Need-mul-word-at Inv-loop μ-loop
 mul-word-at c = omega arith
-
-word-at-requires : tie.Need-word-at-requires Inv-loop μ-loop
-word-at-requires c κs = search needs
-
-put-word-requires : tie.Need-put-word-requires Inv-loop μ-loop
-put-word-requires c κs = search needs
 
 add-k : tie.Need-add-k Inv-loop μ-loop
 add-k c = omega arith
@@ -67,18 +58,5 @@ returns c = (
 
 pub put-words-spec : {M : Type 1} → statement M
 put-words-spec =
-    tie.close
-    (tie.spec
-    Inv-loop
-    μ-loop
-    words-for-requires
-    loop-holds
-    add-put-word
-    mul-word-at
-    word-at-requires
-    put-word-requires
-    add-k
-    loop-less
-    loop-again
-    same-length
-    returns)
+    tie.close (tie.spec Inv-loop μ-loop (λ c κs. search needs) loop-holds add-put-word mul-word-at
+    (λ c κs. search needs) (λ c κs. search needs) add-k loop-less loop-again same-length returns)

@@ -7,9 +7,6 @@ use borrow.Author.Needs.{needs}
 use Rattle.octal.proofs.read.Statement.{statement}
 use Rattle.octal.proofs.read.Tie as tie
 
-bad-line-requires : tie.Need-bad-line-requires
-bad-line-requires c κs = search needs
-
 returns : tie.Need-returns
 unfolding octalOf
 returns c = (rw (← c .before .bad-line .ensures, ne-eqb _ _ (c .if1 .taken)), rw (← c .before .bad-line .ensures, ne-eqb _ _ (c .if1 .taken)))
@@ -23,9 +20,6 @@ returns-2 c = (
 
 store-requires : tie.Need-store-requires
 store-requires c κs = (sym (c .before .before .before .bad-line .ensures) ∙ c .before .before .if1 .left, omega arith, c .before .if2 .left)
-
-same-length : tie.Need-same-length
-same-length c = search needs
 
 returns-3 : tie.Need-returns-3
 unfolding octalOf
@@ -48,5 +42,4 @@ returns-3 c = (
 )
 
 pub read-spec : {M : Type 1} → statement M
-read-spec =
-    tie.close (tie.spec bad-line-requires returns returns-2 store-requires same-length returns-3)
+read-spec = tie.close (tie.spec (λ c κs. search needs) returns returns-2 store-requires (λ c. search needs) returns-3)

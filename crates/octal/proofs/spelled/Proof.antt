@@ -33,9 +33,6 @@ loop-holds c = (omega arith, omega arith, simp sub-zero, simp sub-zero)
 shared-slice-read-digit-of : tie.Need-shared-slice-read-digit-of Inv-loop μ-loop
 shared-slice-read-digit-of c = omega arith
 
-digit-of-requires : tie.Need-digit-of-requires Inv-loop μ-loop
-digit-of-requires c κs = search needs
-
 returns-3 : tie.Need-returns-3 Inv-loop μ-loop
 returns-3 c =
     sym (other-sign _ _ _ _ (c .before .before .before .before .before .before .if1 .left) (c .before .before .before .before .before .if2 .left)
@@ -90,20 +87,5 @@ returns-5 c =
 
 pub spelled-spec : {M : Type 1} → statement M
 spelled-spec =
-    tie.close
-    (tie.spec
-    Inv-loop
-    μ-loop
-    returns
-    returns-2
-    loop-holds
-    shared-slice-read-digit-of
-    digit-of-requires
-    returns-3
-    mul-n
-    add-n
-    add-i
-    loop-less
-    loop-again
-    returns-4
-    returns-5)
+    tie.close (tie.spec Inv-loop μ-loop returns returns-2 loop-holds shared-slice-read-digit-of (λ c κs. search needs)
+    returns-3 mul-n add-n add-i loop-less loop-again returns-4 returns-5)

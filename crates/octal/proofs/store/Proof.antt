@@ -24,9 +24,6 @@ abbrev μ-loop : tie.MeasureT-loop
 loop-holds : tie.Need-loop-holds Inv-loop μ-loop
 loop-holds c = (omega arith, omega arith, refl, simp one-back (c .before .before .pre .0), simp sub-zero)
 
-parcel-at-requires : tie.Need-parcel-at-requires Inv-loop μ-loop
-parcel-at-requires c κs = search needs
-
 cast-room : tie.Need-cast-room Inv-loop μ-loop
 cast-room c =
     record { fits = let p = narrow _ _ (line-right _ _ _ _ (omega arith) (omega arith) (c .before .before .loop .inv .3)) in omega (arith, p, c .parcel-at .ensures) }
@@ -65,18 +62,5 @@ returns c = sym (c .before .loop .inv .4 ∙ store-done _ _ _ _ _ (c .loop-test 
 
 pub store-spec : {M : Type 1} → statement M
 store-spec =
-    tie.close
-    (tie.spec
-    Inv-loop
-    μ-loop
-    loop-holds
-    parcel-at-requires
-    cast-room
-    mul-room
-    slice-write-room
-    add-at
-    add-i
-    loop-less
-    loop-again
-    same-length
-    returns)
+    tie.close (tie.spec Inv-loop μ-loop loop-holds (λ c κs. search needs) cast-room mul-room slice-write-room add-at
+    add-i loop-less loop-again same-length returns)

@@ -38,17 +38,8 @@ loop-holds c = (omega arith, omega arith, simp add-zero, simp add-zero)
 add-byte-at : tie.Need-add-byte-at Inv-loop μ-loop Inv-loop2 μ-loop2 Inv-lines μ-lines
 add-byte-at c = omega arith
 
-byte-at-requires : tie.Need-byte-at-requires Inv-loop μ-loop Inv-loop2 μ-loop2 Inv-lines μ-lines
-byte-at-requires c κs = search needs
-
-is-hex-requires : tie.Need-is-hex-requires Inv-loop μ-loop Inv-loop2 μ-loop2 Inv-lines μ-lines
-is-hex-requires c κs = search needs
-
 mul-address : tie.Need-mul-address Inv-loop μ-loop Inv-loop2 μ-loop2 Inv-lines μ-lines
 mul-address c = omega (arith, digits-most 16 _ _ 4 (lit< tt) (c .before .before .before .before .loop .inv .1) (c .before .before .before .before .loop .inv .0))
-
-hex-of-requires : tie.Need-hex-of-requires Inv-loop μ-loop Inv-loop2 μ-loop2 Inv-lines μ-lines
-hex-of-requires c κs = search needs
 
 add-address : tie.Need-add-address Inv-loop μ-loop Inv-loop2 μ-loop2 Inv-lines μ-lines
 add-address c = omega (arith, digits-most 16 _ _ 4 (lit< tt) (c .before .before .before .before .before .loop .inv .1) (c .before .before .before .before .before .loop .inv .0))
@@ -71,9 +62,6 @@ add-byte-at-2 c = omega arith
 byte-at-requires-2 :
     tie.Need-byte-at-requires-2 Inv-loop μ-loop Inv-loop2 μ-loop2 Inv-lines μ-lines
 byte-at-requires-2 c κs = search needs
-
-is-hex-requires-2 : tie.Need-is-hex-requires-2 Inv-loop μ-loop Inv-loop2 μ-loop2 Inv-lines μ-lines
-is-hex-requires-2 c κs = search needs
 
 add-d-2 : tie.Need-add-d-2 Inv-loop μ-loop Inv-loop2 μ-loop2 Inv-lines μ-lines
 add-d-2 c = omega arith
@@ -125,41 +113,8 @@ returns-5 c = sym (c .before .before .before .before .before .before .before .li
 
 pub bad-line-spec : {M : Type 1} → statement M
 bad-line-spec =
-    tie.close
-    (tie.spec
-    Inv-loop
-    μ-loop
-    Inv-loop2
-    μ-loop2
-    Inv-lines
-    μ-lines
-    lines-holds
-    loop-holds
-    add-byte-at
-    byte-at-requires
-    is-hex-requires
-    mul-address
-    hex-of-requires
-    add-address
-    add-d
-    loop-less
-    loop-again
-    loop2-holds
-    add-byte-at-2
-    byte-at-requires-2
-    is-hex-requires-2
-    add-d-2
-    loop2-less
-    loop2-again
-    is-framed-requires
-    add-low
-    add-at
-    sub-left
-    add-line
-    lines-less
-    lines-again
-    returns
-    returns-2
-    returns-3
-    returns-4
+    tie.close (tie.spec Inv-loop μ-loop Inv-loop2 μ-loop2 Inv-lines μ-lines lines-holds loop-holds add-byte-at
+    (λ c κs. search needs) (λ c κs. search needs) mul-address (λ c κs. search needs) add-address add-d loop-less
+    loop-again loop2-holds add-byte-at-2 byte-at-requires-2 (λ c κs. search needs) add-d-2 loop2-less loop2-again
+    is-framed-requires add-low add-at sub-left add-line lines-less lines-again returns returns-2 returns-3 returns-4
     returns-5)

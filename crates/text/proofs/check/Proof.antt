@@ -11,33 +11,12 @@ returns : tie.Need-returns
 unfolding checkOf
 returns c = (rw (lt-ltb _ _ (c .if1 .taken)), tt)
 
-slice-aggregate-head-line : tie.Need-slice-aggregate-head-line
-slice-aggregate-head-line c = search needs
-
-head-line-requires : tie.Need-head-line-requires
-head-line-requires c κs = search needs
-
-enum-known-steps : tie.Need-enum-known-steps
-enum-known-steps c = search needs
-
-enum-told : tie.Need-enum-told
-enum-told c = search needs
-
 returns-2 : tie.Need-returns-2
 unfolding checkOf afterSteps
 returns-2 c = (rw (le-ltb _ _ (c .before .before .before .before .if1 .left), ← c .before .before .head-line .ensures .0, c .enum-told .given .1), tt)
 
-slice-aggregate-head-line-2 : tie.Need-slice-aggregate-head-line-2
-slice-aggregate-head-line-2 c = search needs
-
 head-line-requires-2 : tie.Need-head-line-requires-2
 head-line-requires-2 c κs = omega (arith, subst (HeadFits 1000000 14) (c .before .before .steps .given .1) (c .before .before .before .before .head-line .ensures .1))
-
-enum-known-words : tie.Need-enum-known-words
-enum-known-words c = search needs
-
-enum-told-2 : tie.Need-enum-told-2
-enum-told-2 c = search needs
 
 returns-3 : tie.Need-returns-3
 unfolding checkOf afterSteps afterWords
@@ -56,19 +35,6 @@ returns-5 c = (rw (le-ltb _ _ (c .before .before .before .before .before .before
 
 pub check-spec : {M : Type 1} → statement M
 check-spec =
-    tie.close
-    (tie.spec
-    returns
-    slice-aggregate-head-line
-    head-line-requires
-    enum-known-steps
-    enum-told
-    returns-2
-    slice-aggregate-head-line-2
-    head-line-requires-2
-    enum-known-words
-    enum-told-2
-    returns-3
-    bad-line-requires
-    returns-4
-    returns-5)
+    tie.close (tie.spec returns (λ c. search needs) (λ c κs. search needs) (λ c. search needs) (λ c. search needs)
+    returns-2 (λ c. search needs) head-line-requires-2 (λ c. search needs) (λ c. search needs) returns-3
+    bad-line-requires returns-4 returns-5)

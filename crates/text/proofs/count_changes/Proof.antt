@@ -18,21 +18,6 @@ abbrev μ-loop : tie.MeasureT-loop
 loop-holds : tie.Need-loop-holds Inv-loop μ-loop
 loop-holds c = (omega arith, omega arith, simp (sub-zero, zero-add))
 
-mul-differs : tie.Need-mul-differs Inv-loop μ-loop
-mul-differs c = search needs
-
-shared-slice-read-differs : tie.Need-shared-slice-read-differs Inv-loop μ-loop
-shared-slice-read-differs c = search needs
-
-mul-differs-2 : tie.Need-mul-differs-2 Inv-loop μ-loop
-mul-differs-2 c = search needs
-
-shared-slice-read-differs-2 : tie.Need-shared-slice-read-differs-2 Inv-loop μ-loop
-shared-slice-read-differs-2 c = search needs
-
-differs-requires : tie.Need-differs-requires Inv-loop μ-loop
-differs-requires c κs = search needs
-
 add-count : tie.Need-add-count Inv-loop μ-loop
 add-count c = omega arith
 
@@ -50,18 +35,5 @@ returns c = let a = c .before .before .before .before .args in let done = change
 
 pub count-changes-spec : {M : Type 1} → statement M
 count-changes-spec =
-    tie.close
-    (tie.spec
-    Inv-loop
-    μ-loop
-    loop-holds
-    mul-differs
-    shared-slice-read-differs
-    mul-differs-2
-    shared-slice-read-differs-2
-    differs-requires
-    add-count
-    add-address
-    loop-less
-    loop-again
-    returns)
+    tie.close (tie.spec Inv-loop μ-loop loop-holds (λ c. search needs) (λ c. search needs) (λ c. search needs)
+    (λ c. search needs) (λ c κs. search needs) add-count add-address loop-less loop-again returns)

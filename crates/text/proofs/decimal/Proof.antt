@@ -19,29 +19,11 @@ abbrev μ-loop : tie.MeasureT-loop
 loop-holds : tie.Need-loop-holds Inv-loop μ-loop
 loop-holds c = (omega arith, omega arith, simp add-zero)
 
-add-byte-at : tie.Need-add-byte-at Inv-loop μ-loop
-add-byte-at c = search needs
-
-byte-at-requires : tie.Need-byte-at-requires Inv-loop μ-loop
-byte-at-requires c κs = search needs
-
-is-decimal-requires : tie.Need-is-decimal-requires Inv-loop μ-loop
-is-decimal-requires c κs = search needs
-
-add-ends : tie.Need-add-ends Inv-loop μ-loop
-add-ends c = search needs
-
-ends-requires : tie.Need-ends-requires Inv-loop μ-loop
-ends-requires c κs = search needs
-
 returns : tie.Need-returns Inv-loop μ-loop
 returns c = let end : c .before .before .before .before .before .before .before .args .at + c .before .before .before .before .before .loop .d + 1 ≤ c .before .before .before .before .before .before .before .args .at + 8 = omega arith in let small : c .before .before .before .before .before .loop .v ≤ 10000000 = omega (arith, digits-most 10 _ _ 7 (lit< tt) (c .before .before .before .before .before .loop .inv .1) (c .before .before .before .before .before .loop .inv .0)) in (c .ends .ensures .0 ∙ sym (c .before .before .before .before .before .loop .inv .2 ∙ decimal-stop _ _ 7 _ (c .before .before .before .before .loop-test .taken) _ (c .before .before .before .byte-at .ensures) _ (sym (c .before .before .is-decimal .ensures) ∙ not-true _ (c .before .if1 .taken))), fits-more _ _ _ _ (c .ends .result) (c .ends .ensures .1) small end)
 
 mul-v : tie.Need-mul-v Inv-loop μ-loop
 mul-v c = omega (arith, digits-most 10 _ _ 7 (lit< tt) (c .before .before .before .before .loop .inv .1) (c .before .before .before .before .loop .inv .0))
-
-cast-v : tie.Need-cast-v Inv-loop μ-loop
-cast-v c = search needs
 
 sub-v : tie.Need-sub-v Inv-loop μ-loop
 sub-v c = omega (arith, decimal-range _ (sym (c .before .is-decimal .ensures) ∙ not-false _ (c .if1 .left)))
@@ -49,44 +31,14 @@ sub-v c = omega (arith, decimal-range _ (sym (c .before .is-decimal .ensures) �
 add-v : tie.Need-add-v Inv-loop μ-loop
 add-v c = omega (arith, digits-most 10 _ _ 7 (lit< tt) (c .before .before .before .before .loop .inv .1) (c .before .before .before .before .loop .inv .0), decimal-range _ (sym (c .before .is-decimal .ensures) ∙ not-false _ (c .if1 .left)))
 
-add-d : tie.Need-add-d Inv-loop μ-loop
-add-d c = search needs
-
-loop-less : tie.Need-loop-less Inv-loop μ-loop
-loop-less c = search needs
-
 loop-again : tie.Need-loop-again Inv-loop μ-loop
 loop-again c = let good = sym (c .before .is-decimal .ensures) ∙ not-false _ (c .if1 .left) in let digit : c .before .before .byte-at .result - 48 < 10 = omega (arith, decimal-range _ good) in (omega arith, digit-more 10 _ _ _ (c .before .before .before .before .loop .inv .1) digit, c .before .before .before .before .loop .inv .2 ∙ decimal-next _ _ 7 _ (c .before .before .before .loop-test .taken) _ (c .before .before .byte-at .ensures) _ good)
-
-add-ends-2 : tie.Need-add-ends-2 Inv-loop μ-loop
-add-ends-2 c = search needs
-
-ends-requires-2 : tie.Need-ends-requires-2 Inv-loop μ-loop
-ends-requires-2 c κs = search needs
 
 returns-2 : tie.Need-returns-2 Inv-loop μ-loop
 returns-2 c = let end : c .before .before .before .before .args .at + c .before .before .loop .d + 1 ≤ c .before .before .before .before .args .at + 8 = omega arith in let small : c .before .before .loop .v ≤ 10000000 = omega (arith, digits-most 10 _ _ 7 (lit< tt) (c .before .before .loop .inv .1) (c .before .before .loop .inv .0)) in (c .ends2 .ensures .0 ∙ sym (c .before .before .loop .inv .2 ∙ decimal-done _ _ 7 _ (c .before .loop-test .left) _), fits-more _ _ _ _ (c .ends2 .result) (c .ends2 .ensures .1) small end)
 
 pub decimal-spec : {M : Type 1} → statement M
 decimal-spec =
-    tie.close
-    (tie.spec
-    Inv-loop
-    μ-loop
-    loop-holds
-    add-byte-at
-    byte-at-requires
-    is-decimal-requires
-    add-ends
-    ends-requires
-    returns
-    mul-v
-    cast-v
-    sub-v
-    add-v
-    add-d
-    loop-less
-    loop-again
-    add-ends-2
-    ends-requires-2
-    returns-2)
+    tie.close (tie.spec Inv-loop μ-loop loop-holds (λ c. search needs) (λ c κs. search needs) (λ c κs. search needs)
+    (λ c. search needs) (λ c κs. search needs) returns mul-v (λ c. search needs) sub-v add-v (λ c. search needs)
+    (λ c. search needs) loop-again (λ c. search needs) (λ c κs. search needs) returns-2)

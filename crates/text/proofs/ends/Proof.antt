@@ -6,12 +6,6 @@ use borrow.Author.Needs.{needs}
 use Rattle.text.proofs.ends.Statement.{statement}
 use Rattle.text.proofs.ends.Tie as tie
 
-byte-at-requires : tie.Need-byte-at-requires
-byte-at-requires c κs = search needs
-
-add-t7 : tie.Need-add-t7
-add-t7 c = search needs
-
 returns : tie.Need-returns
 unfolding endsAt
 returns c = (simp (eq-eqb _ 10 (sym (c .before .byte-at .ensures) ∙ c .if1 .taken)), omega arith)
@@ -21,4 +15,4 @@ unfolding endsAt
 returns-2 c = (simp (ne-eqb _ 10 (λ q. c .if1 .left (c .before .byte-at .ensures ∙ q))), tt)
 
 pub ends-spec : {M : Type 1} → statement M
-ends-spec = tie.close (tie.spec byte-at-requires add-t7 returns returns-2)
+ends-spec = tie.close (tie.spec (λ c κs. search needs) (λ c. search needs) returns returns-2)

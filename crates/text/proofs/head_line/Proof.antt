@@ -9,24 +9,9 @@ use borrow.Author.Needs.{needs}
 use Rattle.text.proofs.head_line.Statement.{statement}
 use Rattle.text.proofs.head_line.Tie as tie
 
-starts-requires : tie.Need-starts-requires
-starts-requires c κs = search needs
-
 returns : tie.Need-returns
 unfolding headAt
 returns c = (rw (← c .before .starts .ensures, not-true (c .before .starts .result) (c .if1 .taken)), tt)
-
-add-number-at : tie.Need-add-number-at
-add-number-at c = search needs
-
-number-at-requires : tie.Need-number-at-requires
-number-at-requires c κs = search needs
-
-enum-known-number : tie.Need-enum-known-number
-enum-known-number c = search needs
-
-enum-told : tie.Need-enum-told
-enum-told c = search needs
 
 returns-2 : tie.Need-returns-2
 unfolding headAt upTo
@@ -42,14 +27,5 @@ returns-4 c = let fits = subst (HeadFits 10000000 (c .before .before .before .be
 
 pub head-line-spec : {M : Type 1} → statement M
 head-line-spec =
-    tie.close
-    (tie.spec
-    starts-requires
-    returns
-    add-number-at
-    number-at-requires
-    enum-known-number
-    enum-told
-    returns-2
-    returns-3
-    returns-4)
+    tie.close (tie.spec (λ c κs. search needs) returns (λ c. search needs) (λ c κs. search needs) (λ c. search needs)
+    (λ c. search needs) returns-2 returns-3 returns-4)

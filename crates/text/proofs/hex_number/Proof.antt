@@ -24,12 +24,6 @@ mul-v c = omega (arith, digits-most 16 _ _ 15 (lit< tt) (c .before .loop .inv .1
 add-byte-at : tie.Need-add-byte-at Inv-loop μ-loop
 add-byte-at c = omega arith
 
-byte-at-requires : tie.Need-byte-at-requires Inv-loop μ-loop
-byte-at-requires c κs = search needs
-
-hex-of-requires : tie.Need-hex-of-requires Inv-loop μ-loop
-hex-of-requires c κs = search needs
-
 add-v : tie.Need-add-v Inv-loop μ-loop
 add-v c = omega (arith, digits-most 16 _ _ 15 (lit< tt) (c .before .before .before .loop .inv .1) (omega arith))
 
@@ -47,17 +41,5 @@ returns c = sym (c .before .loop .inv .2 ∙ hex-done _ _ _ _ (c .loop-test .lef
 
 pub hex-number-spec : {M : Type 1} → statement M
 hex-number-spec =
-    tie.close
-    (tie.spec
-    Inv-loop
-    μ-loop
-    loop-holds
-    mul-v
-    add-byte-at
-    byte-at-requires
-    hex-of-requires
-    add-v
-    add-d
-    loop-less
-    loop-again
-    returns)
+    tie.close (tie.spec Inv-loop μ-loop loop-holds mul-v add-byte-at (λ c κs. search needs) (λ c κs. search needs)
+    add-v add-d loop-less loop-again returns)

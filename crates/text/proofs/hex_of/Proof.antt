@@ -6,18 +6,12 @@ use borrow.Author.Needs.{needs}
 use Rattle.text.proofs.hex_of.Statement.{statement}
 use Rattle.text.proofs.hex_of.Tie as tie
 
-is-decimal-requires : tie.Need-is-decimal-requires
-is-decimal-requires c κs = search needs
-
 sub-result : tie.Need-sub-result
 sub-result c = omega (arith, decimal-range _ (sym (c .before .is-decimal .ensures) ∙ c .if1 .taken))
 
 returns : tie.Need-returns
 unfolding hexOf
 returns c = (rw (← c .before .is-decimal .ensures, c .if1 .taken), omega (arith, decimal-range _ (sym (c .before .is-decimal .ensures) ∙ c .if1 .taken)))
-
-is-letter-requires : tie.Need-is-letter-requires
-is-letter-requires c κs = search needs
 
 sub-result-2 : tie.Need-sub-result-2
 sub-result-2 c = omega (arith, letter-range _ (sym (c .before .is-letter .ensures) ∙ c .if2 .taken))
@@ -32,12 +26,5 @@ returns-3 c = (rw (← c .before .before .before .is-decimal .ensures, c .before
 
 pub hex-of-spec : {M : Type 1} → statement M
 hex-of-spec =
-    tie.close
-    (tie.spec
-    is-decimal-requires
-    sub-result
-    returns
-    is-letter-requires
-    sub-result-2
-    returns-2
+    tie.close (tie.spec (λ c κs. search needs) sub-result returns (λ c κs. search needs) sub-result-2 returns-2
     returns-3)

@@ -5,21 +5,9 @@ use borrow.Author.Needs.{needs}
 use Rattle.text.proofs.is_framed.Statement.{statement}
 use Rattle.text.proofs.is_framed.Tie as tie
 
-add-byte-at : tie.Need-add-byte-at
-add-byte-at c = search needs
-
-byte-at-requires : tie.Need-byte-at-requires
-byte-at-requires c κs = search needs
-
 returns : tie.Need-returns
 unfolding framed
 returns c = simp (ne-eqb _ 61 (λ q. c .if1 .taken (c .before .byte-at .ensures ∙ q)))
-
-add-byte-at-2 : tie.Need-add-byte-at-2
-add-byte-at-2 c = search needs
-
-byte-at-requires-2 : tie.Need-byte-at-requires-2
-byte-at-requires-2 c κs = search needs
 
 returns-2 : tie.Need-returns-2
 unfolding framed
@@ -35,13 +23,5 @@ returns-4 c = simp (eq-eqb _ 61 (sym (c .before .before .before .before .byte-at
 
 pub is-framed-spec : {M : Type 1} → statement M
 is-framed-spec =
-    tie.close
-    (tie.spec
-    add-byte-at
-    byte-at-requires
-    returns
-    add-byte-at-2
-    byte-at-requires-2
-    returns-2
-    returns-3
-    returns-4)
+    tie.close (tie.spec (λ c. search needs) (λ c κs. search needs) returns (λ c. search needs) (λ c κs. search needs)
+    returns-2 returns-3 returns-4)

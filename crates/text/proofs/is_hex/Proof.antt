@@ -3,12 +3,6 @@ use borrow.Author.Needs.{needs}
 use Rattle.text.proofs.is_hex.Statement.{statement}
 use Rattle.text.proofs.is_hex.Tie as tie
 
-is-decimal-requires : tie.Need-is-decimal-requires
-is-decimal-requires c κs = search needs
-
-is-letter-requires : tie.Need-is-letter-requires
-is-letter-requires c κs = search needs
-
 returns : tie.Need-returns
 unfolding isHex
 returns c = rw (← c .before .is-decimal .ensures, c .if1 .taken)
@@ -18,4 +12,4 @@ unfolding isHex
 returns-2 c = rw (← c .before .before .is-decimal .ensures, c .before .if1 .left) (c .is-letter .ensures)
 
 pub is-hex-spec : {M : Type 1} → statement M
-is-hex-spec = tie.close (tie.spec is-decimal-requires is-letter-requires returns returns-2)
+is-hex-spec = tie.close (tie.spec (λ c κs. search needs) (λ c κs. search needs) returns returns-2)

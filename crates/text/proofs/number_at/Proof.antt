@@ -7,28 +7,13 @@ use borrow.Author.Needs.{needs}
 use Rattle.text.proofs.number_at.Statement.{statement}
 use Rattle.text.proofs.number_at.Tie as tie
 
-byte-at-requires : tie.Need-byte-at-requires
-byte-at-requires c κs = search needs
-
-add-ends : tie.Need-add-ends
-add-ends c = search needs
-
-ends-requires : tie.Need-ends-requires
-ends-requires c κs = search needs
-
 returns : tie.Need-returns
 unfolding numberAt
 returns c = let end : c .before .before .before .before .args .at + 1 + 1 ≤ c .before .before .before .before .args .at + 8 = omega arith in let small : 0 ≤ 10000000 = omega arith in (rw (← c .before .before .byte-at .ensures, eq-eqb _ _ (c .before .if1 .taken)) (c .ends .ensures .0), fits-more _ _ _ _ (c .ends .result) (c .ends .ensures .1) small end)
 
-is-decimal-requires : tie.Need-is-decimal-requires
-is-decimal-requires c κs = search needs
-
 returns-2 : tie.Need-returns-2
 unfolding numberAt
 returns-2 c = (rw (← c .before .before .before .byte-at .ensures, ne-eqb _ _ (c .before .before .if1 .left), ← c .before .is-decimal .ensures, not-true (c .before .is-decimal .result) (c .if2 .taken)), tt)
-
-decimal-requires : tie.Need-decimal-requires
-decimal-requires c κs = search needs
 
 returns-3 : tie.Need-returns-3
 unfolding numberAt
@@ -36,13 +21,5 @@ returns-3 c = (rw (← c .before .before .before .before .byte-at .ensures, ne-e
 
 pub number-at-spec : {M : Type 1} → statement M
 number-at-spec =
-    tie.close
-    (tie.spec
-    byte-at-requires
-    add-ends
-    ends-requires
-    returns
-    is-decimal-requires
-    returns-2
-    decimal-requires
-    returns-3)
+    tie.close (tie.spec (λ c κs. search needs) (λ c. search needs) (λ c κs. search needs) returns
+    (λ c κs. search needs) returns-2 (λ c κs. search needs) returns-3)

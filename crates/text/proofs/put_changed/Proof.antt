@@ -6,24 +6,6 @@ use borrow.Author.Needs.{needs}
 use Rattle.text.proofs.put_changed.Statement.{statement}
 use Rattle.text.proofs.put_changed.Tie as tie
 
-compared-requires : tie.Need-compared-requires
-compared-requires c κs = search needs
-
-count-changes-requires : tie.Need-count-changes-requires
-count-changes-requires c κs = search needs
-
-slice-aggregate-put-line : tie.Need-slice-aggregate-put-line
-slice-aggregate-put-line c = search needs
-
-put-line-requires : tie.Need-put-line-requires
-put-line-requires c κs = search needs
-
-put-changes-requires : tie.Need-put-changes-requires
-put-changes-requires c κs = search needs
-
-same-length : tie.Need-same-length
-same-length c = search needs
-
 returns : tie.Need-returns
 unfolding changedLines
 returns c = (
@@ -33,12 +15,5 @@ returns c = (
 
 pub put-changed-spec : {M : Type 1} → statement M
 put-changed-spec =
-    tie.close
-    (tie.spec
-    compared-requires
-    count-changes-requires
-    slice-aggregate-put-line
-    put-line-requires
-    put-changes-requires
-    same-length
-    returns)
+    tie.close (tie.spec (λ c κs. search needs) (λ c κs. search needs) (λ c. search needs) (λ c κs. search needs)
+    (λ c κs. search needs) (λ c. search needs) returns)

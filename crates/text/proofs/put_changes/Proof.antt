@@ -19,23 +19,8 @@ abbrev μ-loop : tie.MeasureT-loop
 loop-holds : tie.Need-loop-holds Inv-loop μ-loop
 loop-holds c = (omega arith, refl, omega arith, λ m q w. rw sub-zero at w)
 
-mul-put-change : tie.Need-mul-put-change Inv-loop μ-loop
-mul-put-change c = search needs
-
-shared-slice-read-put-change : tie.Need-shared-slice-read-put-change Inv-loop μ-loop
-shared-slice-read-put-change c = search needs
-
-mul-put-change-2 : tie.Need-mul-put-change-2 Inv-loop μ-loop
-mul-put-change-2 c = search needs
-
-shared-slice-read-put-change-2 : tie.Need-shared-slice-read-put-change-2 Inv-loop μ-loop
-shared-slice-read-put-change-2 c = search needs
-
 put-change-requires : tie.Need-put-change-requires Inv-loop μ-loop
 put-change-requires c κs = omega arith
-
-add-a : tie.Need-add-a Inv-loop μ-loop
-add-a c = search needs
 
 loop-less : tie.Need-loop-less Inv-loop μ-loop
 loop-less c = omega arith
@@ -51,18 +36,5 @@ returns c = c .before .loop .inv .3 _ _ (wrote-as (words-done _ _ _ _ (c .loop-t
 
 pub put-changes-spec : {M : Type 1} → statement M
 put-changes-spec =
-    tie.close
-    (tie.spec
-    Inv-loop
-    μ-loop
-    loop-holds
-    mul-put-change
-    shared-slice-read-put-change
-    mul-put-change-2
-    shared-slice-read-put-change-2
-    put-change-requires
-    add-a
-    loop-less
-    loop-again
-    same-length
-    returns)
+    tie.close (tie.spec Inv-loop μ-loop loop-holds (λ c. search needs) (λ c. search needs) (λ c. search needs)
+    (λ c. search needs) put-change-requires (λ c. search needs) loop-less loop-again same-length returns)

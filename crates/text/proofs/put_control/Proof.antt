@@ -1,52 +1,24 @@
 use native.Mathlib.Omega.{arith}
+use Rattle.machine.specs.Layout.{registersOf}
 use Rattle.text.specs.Report.{controlLines}
 use Rattle.text.proofs.Writing.{then}
 use borrow.Author.Needs.{needs}
 use Rattle.text.proofs.put_control.Statement.{statement}
 use Rattle.text.proofs.put_control.Tie as tie
 
-slice-aggregate-put-line : tie.Need-slice-aggregate-put-line
-slice-aggregate-put-line c = search needs
-
-put-line-requires : tie.Need-put-line-requires
-put-line-requires c κs = search needs
-
-slice-aggregate-put-line-2 : tie.Need-slice-aggregate-put-line-2
-slice-aggregate-put-line-2 c = search needs
-
-put-line-requires-2 : tie.Need-put-line-requires-2
-put-line-requires-2 c κs = search needs
-
-slice-aggregate-put-line-3 : tie.Need-slice-aggregate-put-line-3
-slice-aggregate-put-line-3 c = search needs
-
-put-line-requires-3 : tie.Need-put-line-requires-3
-put-line-requires-3 c κs = search needs
-
-slice-aggregate-put-line-4 : tie.Need-slice-aggregate-put-line-4
-slice-aggregate-put-line-4 c = search needs
-
-put-line-requires-4 : tie.Need-put-line-requires-4
-put-line-requires-4 c κs = search needs
-
-same-length : tie.Need-same-length
-same-length c = search needs
-
 returns : tie.Need-returns
-unfolding controlLines
-returns c = (then (then (then (c .before .before .before .before .before .before .before .before .before .before .before .before .before .before .before .before .before .put-line .ensures .0) (c .before .before .before .before .before .before .before .before .before .before .before .before .put-line2 .ensures .0)) (c .before .before .before .before .before .before .before .put-line3 .ensures .0)) (c .before .before .put-line4 .ensures .0), omega (arith, c .before .before .before .before .before .before .before .before .before .before .before .before .before .before .before .before .before .put-line .ensures .1, c .before .before .before .before .before .before .before .before .before .before .before .before .put-line2 .ensures .1, c .before .before .before .before .before .before .before .put-line3 .ensures .1, c .before .before .put-line4 .ensures .1))
+unfolding controlLines registersOf
+returns c =
+    let modes = c .before .before .before .modes in
+    let put-line3 = c .before .before .before .before .before .before .before .before .put-line3 in
+    let put-line2 = c .before .before .before .before .before .before .before .before .before .before .before .before .before .before .put-line2 in
+    let put-line = c .before .before .before .before .before .before .before .before .before .before .before .before .before .before .before .before .before .before .before .before .put-line in (
+      then (then (then (put-line .ensures .0) (put-line2 .ensures .0)) (put-line3 .ensures .0)) (rw (modes .ensures) at (c .before .before .put-line4 .ensures .0)),
+      omega (arith, put-line .ensures .1, put-line2 .ensures .1, put-line3 .ensures .1, c .before .before .put-line4 .ensures .1),
+    )
 
 pub put-control-spec : {M : Type 1} → statement M
 put-control-spec =
-    tie.close
-    (tie.spec
-    slice-aggregate-put-line
-    put-line-requires
-    slice-aggregate-put-line-2
-    put-line-requires-2
-    slice-aggregate-put-line-3
-    put-line-requires-3
-    slice-aggregate-put-line-4
-    put-line-requires-4
-    same-length
-    returns)
+    tie.close (tie.spec (λ c. search needs) (λ c. search needs) (λ c κs. search needs) (λ c. search needs)
+    (λ c. search needs) (λ c κs. search needs) (λ c. search needs) (λ c. search needs) (λ c κs. search needs)
+    (λ c. search needs) (λ c κs. search needs) (λ c κs. search needs) (λ c. search needs) returns)

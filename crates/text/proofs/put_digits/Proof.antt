@@ -31,9 +31,6 @@ rem-glyph c = omega arith
 glyph-requires : tie.Need-glyph-requires Inv-loop μ-loop
 glyph-requires c κs = lt-of-lt-of-le (mod-lt _ (c .before .before .before .before .pre .2)) (c .before .before .before .before .pre .3)
 
-put-byte-requires : tie.Need-put-byte-requires Inv-loop μ-loop
-put-byte-requires c κs = search needs
-
 div-rest : tie.Need-div-rest Inv-loop μ-loop
 div-rest c = omega arith
 
@@ -51,18 +48,5 @@ returns c = sym (c .before .loop .inv .2 ∙ digits-done _ _ _ _ _ (c .loop-test
 
 pub put-digits-spec : {M : Type 1} → statement M
 put-digits-spec =
-    tie.close
-    (tie.spec
-    Inv-loop
-    μ-loop
-    loop-holds
-    sub-i
-    add-put-byte
-    rem-glyph
-    glyph-requires
-    put-byte-requires
-    div-rest
-    loop-less
-    loop-again
-    same-length
-    returns)
+    tie.close (tie.spec Inv-loop μ-loop loop-holds sub-i add-put-byte rem-glyph glyph-requires (λ c κs. search needs)
+    div-rest loop-less loop-again same-length returns)

@@ -16,29 +16,11 @@ Inv-loop out₀ at ns least to₀ i₀ out to i = (1 ≤ i) × (i ≤ length ns)
 abbrev μ-loop : tie.MeasureT-loop
 μ-loop out₀ at ns least to₀ i₀ out to i = length ns - i
 
-shared-slice-read-put-number : tie.Need-shared-slice-read-put-number Inv-loop μ-loop
-shared-slice-read-put-number c = search needs
-
-put-number-requires : tie.Need-put-number-requires Inv-loop μ-loop
-put-number-requires c κs = search needs
-
 loop-holds : tie.Need-loop-holds Inv-loop μ-loop
 loop-holds c = (omega arith, omega arith, refl, omega arith, λ m q w. w)
 
-put-byte-requires : tie.Need-put-byte-requires Inv-loop μ-loop
-put-byte-requires c κs = search needs
-
 add-put-number : tie.Need-add-put-number Inv-loop μ-loop
 add-put-number c = omega arith
-
-mul-put-number : tie.Need-mul-put-number Inv-loop μ-loop
-mul-put-number c = search needs
-
-shared-slice-read-put-number-2 : tie.Need-shared-slice-read-put-number-2 Inv-loop μ-loop
-shared-slice-read-put-number-2 c = search needs
-
-put-number-requires-2 : tie.Need-put-number-requires-2 Inv-loop μ-loop
-put-number-requires-2 c κs = search needs
 
 add-i : tie.Need-add-i Inv-loop μ-loop
 add-i c = omega arith
@@ -57,20 +39,6 @@ returns c = let e : c .before .loop .i ≡ length (now (c .before .before .befor
 
 pub put-list-spec : {M : Type 1} → statement M
 put-list-spec =
-    tie.close
-    (tie.spec
-    Inv-loop
-    μ-loop
-    shared-slice-read-put-number
-    put-number-requires
-    loop-holds
-    put-byte-requires
-    add-put-number
-    mul-put-number
-    shared-slice-read-put-number-2
-    put-number-requires-2
-    add-i
-    loop-less
-    loop-again
-    same-length
-    returns)
+    tie.close (tie.spec Inv-loop μ-loop (λ c. search needs) (λ c κs. search needs) loop-holds (λ c κs. search needs)
+    add-put-number (λ c. search needs) (λ c. search needs) (λ c κs. search needs) add-i loop-less loop-again
+    same-length returns)

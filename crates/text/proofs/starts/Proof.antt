@@ -22,9 +22,6 @@ loop-holds c = (omega arith, simp add-zero)
 add-byte-at : tie.Need-add-byte-at Inv-loop μ-loop
 add-byte-at c = omega arith
 
-byte-at-requires : tie.Need-byte-at-requires Inv-loop μ-loop
-byte-at-requires c κs = search needs
-
 shared-slice-read-if1 : tie.Need-shared-slice-read-if1 Inv-loop μ-loop
 shared-slice-read-if1 c = omega arith
 
@@ -45,16 +42,5 @@ returns-2 c = let e : c .before .loop .i ≡ length (now (c .before .before .bef
 
 pub starts-spec : {M : Type 1} → statement M
 starts-spec =
-    tie.close
-    (tie.spec
-    Inv-loop
-    μ-loop
-    loop-holds
-    add-byte-at
-    byte-at-requires
-    shared-slice-read-if1
-    returns
-    add-i
-    loop-less
-    loop-again
-    returns-2)
+    tie.close (tie.spec Inv-loop μ-loop loop-holds add-byte-at (λ c κs. search needs) shared-slice-read-if1 returns
+    add-i loop-less loop-again returns-2)

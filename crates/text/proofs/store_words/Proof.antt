@@ -17,17 +17,8 @@ abbrev μ-loop : tie.MeasureT-loop
 loop-holds : tie.Need-loop-holds Inv-loop μ-loop
 loop-holds c = (omega arith, refl, refl, refl)
 
-hex-number-requires : tie.Need-hex-number-requires Inv-loop μ-loop
-hex-number-requires c κs = search needs
-
 add-hex-number : tie.Need-add-hex-number Inv-loop μ-loop
 add-hex-number c = omega arith
-
-hex-number-requires-2 : tie.Need-hex-number-requires-2 Inv-loop μ-loop
-hex-number-requires-2 c κs = search needs
-
-store-requires : tie.Need-store-requires Inv-loop μ-loop
-store-requires c κs = search needs
 
 add-at : tie.Need-add-at Inv-loop μ-loop
 add-at c = omega arith
@@ -49,18 +40,5 @@ returns c = sym (c .before .loop .inv .3 ∙ stored-done _ _ _ _ (c .loop-test .
 
 pub store-words-spec : {M : Type 1} → statement M
 store-words-spec =
-    tie.close
-    (tie.spec
-    Inv-loop
-    μ-loop
-    loop-holds
-    hex-number-requires
-    add-hex-number
-    hex-number-requires-2
-    store-requires
-    add-at
-    sub-left
-    loop-less
-    loop-again
-    same-length
-    returns)
+    tie.close (tie.spec Inv-loop μ-loop loop-holds (λ c κs. search needs) add-hex-number (λ c κs. search needs)
+    (λ c κs. search needs) add-at sub-left loop-less loop-again same-length returns)
