@@ -13,19 +13,23 @@
 /* What the caller's own frame and memset may take. It is left unpainted, and
  * counts as taken. */
 #define SPARE 512
-#define LIMIT (32 * 1024)
+/* The limits of the header: for steps, and for the rest. All that is lent is
+ * static, so that none of it counts. */
+#define STEPS 1024
+#define REST (6 * 1024)
 
-static uint64_t memory[4096], first[PULXARRID_STATE_WORDS], second[PULXARRID_STATE_WORDS];
+static uint64_t memory[4096], pair[PULXARRID_PAIR_WORDS];
 static uint64_t answer[2], report[3];
 static const uint8_t schedule[64] = {0, 1, 1, 0, 0, 1};
 static uint16_t parcels[] = {022105, 013777, 0177777, 0147123, 0110300, 0, 020100};
 static uint8_t text[sizeof parcels / sizeof *parcels * PULXARRID_LINE_MOST];
 static uint64_t bytes[1], count[1];
 
-static void start(void) { pulxarrid_start(first, memory, 4096, 0, 0); }
-static void step(void) { pulxarrid_step(first, memory, 4096, answer); }
-static void run(void) { pulxarrid_run(first, memory, 4096, 1000, report); }
-static void pair_run(void) { pulxarrid_pair_run(first, second, memory, 4096, schedule, 64, report); }
+static void start(void) { pulxarrid_start(pair, memory, 4096, 0, 0); }
+static void step(void) { pulxarrid_step(pair, memory, 4096, answer); }
+static void turn(void) { pulxarrid_turn(pair, memory, 4096, 1000, report); }
+static void run(void) { pulxarrid_run(pair, memory, 4096, 1000, report); }
+static void pair_run(void) { pulxarrid_pair_run(pair, memory, 4096, schedule, 64, report); }
 
 static void list(void) { pulxarrid_list(parcels, sizeof parcels / sizeof *parcels, text, sizeof text, bytes); }
 static void assemble(void) { pulxarrid_assemble(text, bytes[0], parcels, sizeof parcels / sizeof *parcels, count); }
@@ -73,14 +77,15 @@ static void prepare(void)
     memory[4] = UINT64_C(0x800000000);
     memory[5] = UINT64_C(0xC00000000);
     memory[0x400] = UINT64_C(0x2445248730CA90C0);
-    pulxarrid_start(first, memory, 4096, 0, 0);
-    pulxarrid_start(second, memory, 4096, 0, 1);
+    pulxarrid_start(pair, memory, 4096, 0, 0);
+    pulxarrid_start(pair + PULXARRID_STATE_WORDS, memory, 4096, 0, 1);
 }
 
 int main(void)
 {
-    static const struct { const char *name; void (*call)(void); } calls[] = {
-        {"start", start}, {"step", step}, {"run", run}, {"pair run", pair_run}, {"listing", list}, {"text assembled", assemble}
+    static const struct { const char *name; void (*call)(void); size_t limit; } calls[] = {
+        {"start", start, REST}, {"step", step, STEPS}, {"turn", turn, STEPS}, {"run", run, STEPS},
+        {"pair run", pair_run, STEPS}, {"listing", list, REST}, {"text assembled", assemble, REST}
     };
     unsigned n;
     int passed = 0, failed = 0;
@@ -90,7 +95,7 @@ int main(void)
         prepare();
         calls[n].call();
         prepare();
-        if (measured(calls[n].call) && taken <= LIMIT) {
+        if (measured(calls[n].call) && taken <= calls[n].limit) {
             printf("stack of a %s: %zu bytes\n", calls[n].name, taken);
             passed++;
         } else {
