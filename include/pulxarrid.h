@@ -3,9 +3,8 @@
  *
  * Link with libexport.a. It calls memcpy and memset, allocates nothing, keeps
  * nothing between calls and may be called from several threads at once, each
- * with its own processors and memory. A step, a turn, a run or a pair run takes
- * at most 1 KB of stack, a start, a text assembled or parcels listed at most
- * 6 KB.
+ * with its own processors and memory. A call on processors takes at most 1 KB of
+ * stack, a text assembled or parcels listed at most 6 KB.
  *
  * The caller lends every array, and processors are worked on where they stand.
  * No pointer may be null, not even with a length of 0, and no two arrays of one

@@ -1,5 +1,6 @@
 /* How many bytes of stack a call takes: each is made in a thread whose stack is
- * painted below the caller's frame before, and looked at after. */
+ * painted below the caller's frame before, and looked at after. What counts is
+ * the most over many programs, for an instruction may take more than another. */
 #define _POSIX_C_SOURCE 200809L
 #include "pulxarrid.h"
 
@@ -13,10 +14,11 @@
 /* What the caller's own frame and memset may take. It is left unpainted, and
  * counts as taken. */
 #define SPARE 512
-/* The limits of the header: for steps, and for the rest. All that is lent is
- * static, so that none of it counts. */
-#define STEPS 1024
-#define REST (6 * 1024)
+/* The limits of the header: of a call on processors, and of one on CAL. All that
+ * is lent is static, so that none of it counts. */
+#define MACHINE 1024
+#define CAL (6 * 1024)
+#define PROGRAMS 500
 
 static uint64_t memory[4096], pair[PULXARRID_PAIR_WORDS];
 static uint64_t answer[2], report[3];
@@ -68,15 +70,24 @@ static int measured(void (*call)(void))
     return good;
 }
 
-/* The first example, which ends in an exchange. */
-static void prepare(void)
+/* The first example, which ends in an exchange; after it, any words. */
+static void prepare(unsigned program)
 {
+    uint64_t drawn = program, z; /* splitmix64 */
+    unsigned n;
+
     memset(memory, 0, sizeof memory);
     memory[1] = UINT64_C(0x400000000);
     memory[2] = UINT64_C(0x800000000);
     memory[4] = UINT64_C(0x800000000);
     memory[5] = UINT64_C(0xC00000000);
     memory[0x400] = UINT64_C(0x2445248730CA90C0);
+    for (n = 16; program && n < 4096; n++) {
+        z = drawn += UINT64_C(0x9E3779B97F4A7C15);
+        z = (z ^ z >> 30) * UINT64_C(0xBF58476D1CE4E5B9);
+        z = (z ^ z >> 27) * UINT64_C(0x94D049BB133111EB);
+        memory[n] = z ^ z >> 31;
+    }
     pulxarrid_start(pair, memory, 4096, 0, 0);
     pulxarrid_start(pair + PULXARRID_STATE_WORDS, memory, 4096, 0, 1);
 }
@@ -84,22 +95,30 @@ static void prepare(void)
 int main(void)
 {
     static const struct { const char *name; void (*call)(void); size_t limit; } calls[] = {
-        {"start", start, REST}, {"step", step, STEPS}, {"turn", turn, STEPS}, {"run", run, STEPS},
-        {"pair run", pair_run, STEPS}, {"listing", list, REST}, {"text assembled", assemble, REST}
+        {"start", start, MACHINE}, {"step", step, MACHINE}, {"turn", turn, MACHINE}, {"run", run, MACHINE},
+        {"pair run", pair_run, MACHINE}, {"listing", list, CAL}, {"text assembled", assemble, CAL}
     };
-    unsigned n;
-    int passed = 0, failed = 0;
+    unsigned n, program;
+    size_t most;
+    int good, passed = 0, failed = 0;
 
     for (n = 0; n < sizeof calls / sizeof *calls; n++) {
-        /* once before, so that the linker has looked up all names */
-        prepare();
-        calls[n].call();
-        prepare();
-        if (measured(calls[n].call) && taken <= calls[n].limit) {
-            printf("stack of a %s: %zu bytes\n", calls[n].name, taken);
+        good = 1;
+        most = 0;
+        for (program = 0; program < PROGRAMS; program++) {
+            /* once before, so that the linker has looked up all names */
+            prepare(program);
+            calls[n].call();
+            prepare(program);
+            good = good && measured(calls[n].call);
+            if (taken > most)
+                most = taken;
+        }
+        if (good && most <= calls[n].limit) {
+            printf("stack of a %s: %zu bytes\n", calls[n].name, most);
             passed++;
         } else {
-            printf("stack of a %s: %zu bytes, too many or not measured\n", calls[n].name, taken);
+            printf("stack of a %s: %zu bytes, too many or not measured\n", calls[n].name, most);
             failed++;
         }
     }
