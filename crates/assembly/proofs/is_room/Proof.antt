@@ -77,15 +77,5 @@ returns-3 c =
 
 pub is-room-spec : {M : Type 1} → statement M
 is-room-spec =
-    tie.close
-    (tie.spec
-    Inv-loop
-    μ-loop
-    returns
-    loop-holds
-    slice-aggregate-put-next
-    put-next-requires
-    returns-2
-    loop-less
-    loop-again
-    returns-3)
+    tie.close (tie.spec Inv-loop μ-loop returns loop-holds slice-aggregate-put-next put-next-requires returns-2
+    loop-less loop-again returns-3)

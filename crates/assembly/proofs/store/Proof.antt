@@ -75,15 +75,5 @@ returns c =
 
 pub store-spec : {M : Type 1} → statement M
 store-spec =
-    tie.close
-    (tie.spec
-    Inv-loop
-    μ-loop
-    loop-holds
-    look-requires
-    put-parcels-requires
-    add-at
-    loop-less
-    loop-again
-    same-length
-    returns)
+    tie.close (tie.spec Inv-loop μ-loop loop-holds look-requires put-parcels-requires add-at loop-less loop-again
+    same-length returns)

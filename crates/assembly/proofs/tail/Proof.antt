@@ -14,26 +14,11 @@ Inv-loop text at rest₀ n i₀ rest i = (length rest ≡ 64) × (i ≤ n) × (s
 abbrev μ-loop : tie.MeasureT-loop
 μ-loop text at rest₀ n i₀ rest i = n - i
 
-sub-n : tie.Need-sub-n Inv-loop μ-loop
-sub-n c = omega arith
-
 loop-holds : tie.Need-loop-holds Inv-loop μ-loop
 loop-holds c = (refl, omega arith, refl)
 
-add-rest : tie.Need-add-rest Inv-loop μ-loop
-add-rest c = omega arith
-
-shared-slice-read-rest : tie.Need-shared-slice-read-rest Inv-loop μ-loop
-shared-slice-read-rest c = omega arith
-
 array-write-rest : tie.Need-array-write-rest Inv-loop μ-loop
 array-write-rest c = let l = c .before .before .loop .inv .0 in omega (arith, l)
-
-add-i : tie.Need-add-i Inv-loop μ-loop
-add-i c = omega arith
-
-loop-less : tie.Need-loop-less Inv-loop μ-loop
-loop-less c = omega arith
 
 loop-again : tie.Need-loop-again Inv-loop μ-loop
 loop-again c =
@@ -59,16 +44,5 @@ returns c =
 
 pub tail-spec : {M : Type 1} → statement M
 tail-spec =
-    tie.close
-    (tie.spec
-    Inv-loop
-    μ-loop
-    sub-n
-    loop-holds
-    add-rest
-    shared-slice-read-rest
-    array-write-rest
-    add-i
-    loop-less
-    loop-again
-    returns)
+    tie.close (tie.spec Inv-loop μ-loop (λ c. omega arith) loop-holds (λ c. omega arith) (λ c. omega arith)
+    array-write-rest (λ c. omega arith) (λ c. omega arith) loop-again returns)

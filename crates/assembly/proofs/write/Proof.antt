@@ -66,14 +66,4 @@ returns c =
     L .inv .3 _ _ (wrote-as (no-lines (c .before .before .before .before .args .parcels .now) (L .at) (omega arith)) (wrote-none _ _))
 
 pub write-spec : {M : Type 1} → statement M
-write-spec =
-    tie.close
-    (tie.spec
-    Inv-loop
-    μ-loop
-    loop-holds
-    put-next-requires
-    loop-less
-    loop-again
-    same-length
-    returns)
+write-spec = tie.close (tie.spec Inv-loop μ-loop loop-holds put-next-requires loop-less loop-again same-length returns)

@@ -21,18 +21,6 @@ loop-holds : tie.Need-loop-holds Inv-loop μ-loop
 unfolding numberAt
 loop-holds c = (c .before .pre .1, omega arith, refl)
 
-mul-value : tie.Need-mul-value Inv-loop μ-loop
-mul-value c = omega arith
-
-add-value : tie.Need-add-value Inv-loop μ-loop
-add-value c = omega arith
-
-add-p : tie.Need-add-p Inv-loop μ-loop
-add-p c = omega arith
-
-loop-less : tie.Need-loop-less Inv-loop μ-loop
-loop-less c = omega arith
-
 loop-again : tie.Need-loop-again Inv-loop μ-loop
 loop-again c =
     let e = c .before .before .byte .ensures in
@@ -57,5 +45,5 @@ returns-2 c =
 
 pub number-spec : {M : Type 1} → statement M
 number-spec =
-    tie.close (tie.spec Inv-loop μ-loop loop-holds (λ c κs. search needs) (λ c. search needs) mul-value add-value
-    add-p loop-less loop-again returns returns-2)
+    tie.close (tie.spec Inv-loop μ-loop loop-holds (λ c κs. search needs) (λ c. search needs) (λ c. omega arith)
+    (λ c. omega arith) (λ c. omega arith) (λ c. omega arith) loop-again returns returns-2)

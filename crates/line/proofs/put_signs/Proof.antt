@@ -49,18 +49,5 @@ loop-again c = sign-next (c .before .before .before .loop .inv) _ refl (c .befor
 
 pub put-signs-spec : {M : Type 1} → statement M
 put-signs-spec =
-    tie.close
-    (tie.spec
-    Inv-loop
-    μ-loop
-    loop-holds
-    element-copy-out-b
-    add-p
-    same-length
-    returns
-    slice-write-line
-    add-to
-    same-length-2
-    returns-2
-    loop-less
-    loop-again)
+    tie.close (tie.spec Inv-loop μ-loop loop-holds element-copy-out-b add-p same-length returns slice-write-line
+    add-to same-length-2 returns-2 loop-less loop-again)

@@ -28,17 +28,8 @@ abbrev μ-lines : tie.MeasureT-lines
 lines-holds : tie.Need-lines-holds Inv-loop μ-loop Inv-lines μ-lines
 lines-holds c = (omega arith, simp one-back)
 
-sub-if2 : tie.Need-sub-if2 Inv-loop μ-loop Inv-lines μ-lines
-sub-if2 c = omega arith
-
 loop-holds : tie.Need-loop-holds Inv-loop μ-loop Inv-lines μ-lines
 loop-holds c = (omega arith, omega arith, simp add-zero, simp add-zero)
-
-add-digit-of : tie.Need-add-digit-of Inv-loop μ-loop Inv-lines μ-lines
-add-digit-of c = omega arith
-
-shared-slice-read-digit-of : tie.Need-shared-slice-read-digit-of Inv-loop μ-loop Inv-lines μ-lines
-shared-slice-read-digit-of c = omega arith
 
 mul-p : tie.Need-mul-p Inv-loop μ-loop Inv-lines μ-lines
 mul-p c =
@@ -47,12 +38,6 @@ mul-p c =
 add-p : tie.Need-add-p Inv-loop μ-loop Inv-lines μ-lines
 add-p c =
     omega (arith, digits-most 8 _ _ 6 (lit< tt) (c .before .before .before .before .loop .inv .1) (c .before .before .before .before .loop .inv .0))
-
-add-d : tie.Need-add-d Inv-loop μ-loop Inv-lines μ-lines
-add-d c = omega arith
-
-loop-less : tie.Need-loop-less Inv-loop μ-loop Inv-lines μ-lines
-loop-less c = omega arith
 
 loop-again : tie.Need-loop-again Inv-loop μ-loop Inv-lines μ-lines
 loop-again c = (
@@ -63,21 +48,6 @@ loop-again c = (
   c .before .before .before .before .loop .inv .3
       ∙ number-next 8 _ 6 _ _ (c .before .before .before .loop-test .taken) _ (c .before .digit-of .ensures .0) _ (add-assoc _ _ _) _,
 )
-
-add-if4 : tie.Need-add-if4 Inv-loop μ-loop Inv-lines μ-lines
-add-if4 c = omega arith
-
-shared-slice-read-if4 : tie.Need-shared-slice-read-if4 Inv-loop μ-loop Inv-lines μ-lines
-shared-slice-read-if4 c = omega arith
-
-add-at : tie.Need-add-at Inv-loop μ-loop Inv-lines μ-lines
-add-at c = omega arith
-
-add-line : tie.Need-add-line Inv-loop μ-loop Inv-lines μ-lines
-add-line c = omega arith
-
-lines-less : tie.Need-lines-less Inv-loop μ-loop Inv-lines μ-lines
-lines-less c = omega arith
 
 lines-again : tie.Need-lines-again Inv-loop μ-loop Inv-lines μ-lines
 lines-again c = (
@@ -113,6 +83,7 @@ returns-5 c =
 
 pub bad-line-spec : {M : Type 1} → statement M
 bad-line-spec =
-    tie.close (tie.spec Inv-loop μ-loop Inv-lines μ-lines lines-holds sub-if2 loop-holds add-digit-of
-    shared-slice-read-digit-of (λ c κs. search needs) mul-p add-p add-d loop-less loop-again add-if4
-    shared-slice-read-if4 add-at add-line lines-less lines-again returns returns-2 returns-3 returns-4 returns-5)
+    tie.close (tie.spec Inv-loop μ-loop Inv-lines μ-lines lines-holds (λ c. omega arith) loop-holds (λ c. omega arith)
+    (λ c. omega arith) (λ c κs. search needs) mul-p add-p (λ c. omega arith) (λ c. omega arith) loop-again
+    (λ c. omega arith) (λ c. omega arith) (λ c. omega arith) (λ c. omega arith) (λ c. omega arith) lines-again returns
+    returns-2 returns-3 returns-4 returns-5)

@@ -22,20 +22,8 @@ loop-holds c = (omega arith, omega arith, simp add-zero)
 mul-p : tie.Need-mul-p Inv-loop μ-loop
 mul-p c = omega (arith, digits-most 17 _ _ 6 (lit< tt) (c .before .loop .inv .1) (c .before .loop .inv .0))
 
-add-digit-of : tie.Need-add-digit-of Inv-loop μ-loop
-add-digit-of c = omega arith
-
-shared-slice-read-digit-of : tie.Need-shared-slice-read-digit-of Inv-loop μ-loop
-shared-slice-read-digit-of c = omega arith
-
 add-p : tie.Need-add-p Inv-loop μ-loop
 add-p c = omega (arith, digits-most 17 _ _ 6 (lit< tt) (c .before .before .before .loop .inv .1) (c .before .before .before .loop .inv .0))
-
-add-d : tie.Need-add-d Inv-loop μ-loop
-add-d c = omega arith
-
-loop-less : tie.Need-loop-less Inv-loop μ-loop
-loop-less c = omega arith
 
 loop-again : tie.Need-loop-again Inv-loop μ-loop
 loop-again c = (
@@ -50,5 +38,5 @@ returns c = sym (c .before .loop .inv .2 ∙ number-done 8 _ 6 _ _ (c .loop-test
 
 pub parcel-at-spec : {M : Type 1} → statement M
 parcel-at-spec =
-    tie.close (tie.spec Inv-loop μ-loop loop-holds mul-p add-digit-of shared-slice-read-digit-of
-    (λ c κs. search needs) add-p add-d loop-less loop-again returns)
+    tie.close (tie.spec Inv-loop μ-loop loop-holds mul-p (λ c. omega arith) (λ c. omega arith) (λ c κs. search needs)
+    add-p (λ c. omega arith) (λ c. omega arith) loop-again returns)

@@ -23,21 +23,6 @@ abbrev μ-loop : tie.MeasureT-loop
 loop-holds : tie.Need-loop-holds Inv-loop μ-loop
 loop-holds c = (omega arith, refl, omega arith, λ m q w. w)
 
-mul-put-parcel : tie.Need-mul-put-parcel Inv-loop μ-loop
-mul-put-parcel c = omega arith
-
-shared-slice-read-put-parcel : tie.Need-shared-slice-read-put-parcel Inv-loop μ-loop
-shared-slice-read-put-parcel c = omega arith
-
-put-parcel-requires : tie.Need-put-parcel-requires Inv-loop μ-loop
-put-parcel-requires c κs = omega arith
-
-add-i : tie.Need-add-i Inv-loop μ-loop
-add-i c = omega arith
-
-loop-less : tie.Need-loop-less Inv-loop μ-loop
-loop-less c = omega arith
-
 loop-again : tie.Need-loop-again Inv-loop μ-loop
 loop-again c = (
   omega arith,
@@ -57,16 +42,5 @@ returns c =
 
 pub put-parcels-spec : {M : Type 1} → statement M
 put-parcels-spec =
-    tie.close
-    (tie.spec
-    Inv-loop
-    μ-loop
-    loop-holds
-    mul-put-parcel
-    shared-slice-read-put-parcel
-    put-parcel-requires
-    add-i
-    loop-less
-    loop-again
-    same-length
-    returns)
+    tie.close (tie.spec Inv-loop μ-loop loop-holds (λ c. omega arith) (λ c. omega arith) (λ c κs. omega arith)
+    (λ c. omega arith) (λ c. omega arith) loop-again same-length returns)

@@ -30,9 +30,6 @@ returns-2 c = sym (too-long _ _ _ _ (c .before .if1 .left) (c .if2 .taken))
 loop-holds : tie.Need-loop-holds Inv-loop μ-loop
 loop-holds c = (omega arith, omega arith, simp sub-zero, simp sub-zero)
 
-shared-slice-read-digit-of : tie.Need-shared-slice-read-digit-of Inv-loop μ-loop
-shared-slice-read-digit-of c = omega arith
-
 returns-3 : tie.Need-returns-3 Inv-loop μ-loop
 returns-3 c =
     sym (other-sign _ _ _ _ (c .before .before .before .before .before .before .if1 .left) (c .before .before .before .before .before .if2 .left)
@@ -59,12 +56,6 @@ add-n c =
           (c .before .before .before .before .loop .inv .1) (omega arith),
     )
 
-add-i : tie.Need-add-i Inv-loop μ-loop
-add-i c = omega arith
-
-loop-less : tie.Need-loop-less Inv-loop μ-loop
-loop-less c = omega arith
-
 loop-again : tie.Need-loop-again Inv-loop μ-loop
 loop-again c = (
   omega arith,
@@ -87,5 +78,5 @@ returns-5 c =
 
 pub spelled-spec : {M : Type 1} → statement M
 spelled-spec =
-    tie.close (tie.spec Inv-loop μ-loop returns returns-2 loop-holds shared-slice-read-digit-of (λ c κs. search needs)
-    returns-3 mul-n add-n add-i loop-less loop-again returns-4 returns-5)
+    tie.close (tie.spec Inv-loop μ-loop returns returns-2 loop-holds (λ c. omega arith) (λ c κs. search needs)
+    returns-3 mul-n add-n (λ c. omega arith) (λ c. omega arith) loop-again returns-4 returns-5)

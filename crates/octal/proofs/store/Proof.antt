@@ -28,21 +28,6 @@ cast-room : tie.Need-cast-room Inv-loop μ-loop
 cast-room c =
     record { fits = let p = narrow _ _ (line-right _ _ _ _ (omega arith) (omega arith) (c .before .before .loop .inv .3)) in omega (arith, p, c .parcel-at .ensures) }
 
-mul-room : tie.Need-mul-room Inv-loop μ-loop
-mul-room c = omega arith
-
-slice-write-room : tie.Need-slice-write-room Inv-loop μ-loop
-slice-write-room c = omega arith
-
-add-at : tie.Need-add-at Inv-loop μ-loop
-add-at c = omega arith
-
-add-i : tie.Need-add-i Inv-loop μ-loop
-add-i c = omega arith
-
-loop-less : tie.Need-loop-less Inv-loop μ-loop
-loop-less c = omega arith
-
 loop-again : tie.Need-loop-again Inv-loop μ-loop
 loop-again c =
     let here : c .before .before .loop .at < length (c .before .before .before .before .before .args .text .now) = omega arith in (
@@ -62,5 +47,5 @@ returns c = sym (c .before .loop .inv .4 ∙ store-done _ _ _ _ _ (c .loop-test 
 
 pub store-spec : {M : Type 1} → statement M
 store-spec =
-    tie.close (tie.spec Inv-loop μ-loop loop-holds (λ c κs. search needs) cast-room mul-room slice-write-room add-at
-    add-i loop-less loop-again same-length returns)
+    tie.close (tie.spec Inv-loop μ-loop loop-holds (λ c κs. search needs) cast-room (λ c. omega arith)
+    (λ c. omega arith) (λ c. omega arith) (λ c. omega arith) (λ c. omega arith) loop-again same-length returns)

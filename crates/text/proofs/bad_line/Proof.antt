@@ -35,20 +35,11 @@ lines-holds c = (omega arith, refl, omega arith, refl)
 loop-holds : tie.Need-loop-holds Inv-loop μ-loop Inv-loop2 μ-loop2 Inv-lines μ-lines
 loop-holds c = (omega arith, omega arith, simp add-zero, simp add-zero)
 
-add-byte-at : tie.Need-add-byte-at Inv-loop μ-loop Inv-loop2 μ-loop2 Inv-lines μ-lines
-add-byte-at c = omega arith
-
 mul-address : tie.Need-mul-address Inv-loop μ-loop Inv-loop2 μ-loop2 Inv-lines μ-lines
 mul-address c = omega (arith, digits-most 16 _ _ 4 (lit< tt) (c .before .before .before .before .loop .inv .1) (c .before .before .before .before .loop .inv .0))
 
 add-address : tie.Need-add-address Inv-loop μ-loop Inv-loop2 μ-loop2 Inv-lines μ-lines
 add-address c = omega (arith, digits-most 16 _ _ 4 (lit< tt) (c .before .before .before .before .before .loop .inv .1) (c .before .before .before .before .before .loop .inv .0))
-
-add-d : tie.Need-add-d Inv-loop μ-loop Inv-loop2 μ-loop2 Inv-lines μ-lines
-add-d c = omega arith
-
-loop-less : tie.Need-loop-less Inv-loop μ-loop Inv-loop2 μ-loop2 Inv-lines μ-lines
-loop-less c = omega arith
 
 loop-again : tie.Need-loop-again Inv-loop μ-loop Inv-loop2 μ-loop2 Inv-lines μ-lines
 loop-again c = (omega arith, digit-more 16 _ _ _ (c .before .before .before .before .before .loop .inv .1) (c .hex-of .ensures .1), c .before .before .before .before .before .loop .inv .2 ∙ all-next _ _ 4 _ (c .before .before .before .before .loop-test .taken) _ (c .before .before .before .byte-at .ensures) (sym (c .before .before .is-hex .ensures) ∙ not-false _ (c .before .if3 .left)), c .before .before .before .before .before .loop .inv .3 ∙ hex-next _ _ 4 _ (c .before .before .before .before .loop-test .taken) _ (c .before .before .before .byte-at .ensures) _ _ (c .hex-of .ensures .0))
@@ -56,18 +47,9 @@ loop-again c = (omega arith, digit-more 16 _ _ _ (c .before .before .before .bef
 loop2-holds : tie.Need-loop2-holds Inv-loop μ-loop Inv-loop2 μ-loop2 Inv-lines μ-lines
 loop2-holds c = (omega arith, omega arith, refl)
 
-add-byte-at-2 : tie.Need-add-byte-at-2 Inv-loop μ-loop Inv-loop2 μ-loop2 Inv-lines μ-lines
-add-byte-at-2 c = omega arith
-
 byte-at-requires-2 :
     tie.Need-byte-at-requires-2 Inv-loop μ-loop Inv-loop2 μ-loop2 Inv-lines μ-lines
 byte-at-requires-2 c κs = search needs
-
-add-d-2 : tie.Need-add-d-2 Inv-loop μ-loop Inv-loop2 μ-loop2 Inv-lines μ-lines
-add-d-2 c = omega arith
-
-loop2-less : tie.Need-loop2-less Inv-loop μ-loop Inv-loop2 μ-loop2 Inv-lines μ-lines
-loop2-less c = omega arith
 
 loop2-again : tie.Need-loop2-again Inv-loop μ-loop Inv-loop2 μ-loop2 Inv-lines μ-lines
 loop2-again c = (omega arith, omega arith, c .before .before .before .before .loop2 .inv .2 ∙ all-next _ _ 21 _ (c .before .before .before .loop2-test .taken) _ (c .before .before .byte-at2 .ensures) (sym (c .before .is-hex2 .ensures) ∙ not-false _ (c .if4 .left)))
@@ -78,18 +60,6 @@ is-framed-requires c κs = omega arith
 
 add-low : tie.Need-add-low Inv-loop μ-loop Inv-loop2 μ-loop2 Inv-lines μ-lines
 add-low c = omega (arith, digits-most 16 _ _ 4 (lit< tt) (c .before .before .before .before .before .loop .inv .1) (c .before .before .before .before .before .loop .inv .0))
-
-add-at : tie.Need-add-at Inv-loop μ-loop Inv-loop2 μ-loop2 Inv-lines μ-lines
-add-at c = omega arith
-
-sub-left : tie.Need-sub-left Inv-loop μ-loop Inv-loop2 μ-loop2 Inv-lines μ-lines
-sub-left c = omega arith
-
-add-line : tie.Need-add-line Inv-loop μ-loop Inv-loop2 μ-loop2 Inv-lines μ-lines
-add-line c = omega arith
-
-lines-less : tie.Need-lines-less Inv-loop μ-loop Inv-loop2 μ-loop2 Inv-lines μ-lines
-lines-less c = omega arith
 
 lines-again : tie.Need-lines-again Inv-loop μ-loop Inv-loop2 μ-loop2 Inv-lines μ-lines
 lines-again c = let spelled = c .before .before .before .before .before .loop .inv .3 ∙ hex-done _ _ 4 _ (c .before .before .before .before .loop-test .left) _ in (omega arith, omega arith, omega arith, c .before .before .before .before .before .before .before .lines .inv .3 ∙ line-good _ _ _ _ _ _ (omega arith) spelled (all-digits _ _ _ (c .before .before .before .before .before .loop .inv .2 ∙ all-done _ _ 4 _ (c .before .before .before .before .loop-test .left)) _ spelled (c .before .before .before .loop2 .inv .2 ∙ all-done _ _ 21 _ (c .before .before .loop2-test .left)) ∙ sym (c .before .is-framed .ensures) ∙ not-false _ (c .if5 .left)))
@@ -113,8 +83,8 @@ returns-5 c = sym (c .before .before .before .before .before .before .before .li
 
 pub bad-line-spec : {M : Type 1} → statement M
 bad-line-spec =
-    tie.close (tie.spec Inv-loop μ-loop Inv-loop2 μ-loop2 Inv-lines μ-lines lines-holds loop-holds add-byte-at
-    (λ c κs. search needs) (λ c κs. search needs) mul-address (λ c κs. search needs) add-address add-d loop-less
-    loop-again loop2-holds add-byte-at-2 byte-at-requires-2 (λ c κs. search needs) add-d-2 loop2-less loop2-again
-    is-framed-requires add-low add-at sub-left add-line lines-less lines-again returns returns-2 returns-3 returns-4
-    returns-5)
+    tie.close (tie.spec Inv-loop μ-loop Inv-loop2 μ-loop2 Inv-lines μ-lines lines-holds loop-holds (λ c. omega arith)
+    (λ c κs. search needs) (λ c κs. search needs) mul-address (λ c κs. search needs) add-address (λ c. omega arith)
+    (λ c. omega arith) loop-again loop2-holds (λ c. omega arith) byte-at-requires-2 (λ c κs. search needs)
+    (λ c. omega arith) (λ c. omega arith) loop2-again is-framed-requires add-low (λ c. omega arith) (λ c. omega arith)
+    (λ c. omega arith) (λ c. omega arith) lines-again returns returns-2 returns-3 returns-4 returns-5)

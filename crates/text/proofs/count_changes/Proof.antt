@@ -18,15 +18,6 @@ abbrev μ-loop : tie.MeasureT-loop
 loop-holds : tie.Need-loop-holds Inv-loop μ-loop
 loop-holds c = (omega arith, omega arith, simp (sub-zero, zero-add))
 
-add-count : tie.Need-add-count Inv-loop μ-loop
-add-count c = omega arith
-
-add-address : tie.Need-add-address Inv-loop μ-loop
-add-address c = omega arith
-
-loop-less : tie.Need-loop-less Inv-loop μ-loop
-loop-less c = omega arith
-
 loop-again : tie.Need-loop-again Inv-loop μ-loop
 loop-again c = let a = c .before .before .before .before .before .before .before .args in let next = changes-next (now (a .before)) (now (a .after)) (a .n) (c .before .before .before .before .loop .address) (c .before .before .before .loop-test .taken) in (omega arith, omega arith, omega (arith, c .before .before .before .before .loop .inv .2, next, c .differs .ensures .0))
 
@@ -36,4 +27,5 @@ returns c = let a = c .before .before .before .before .args in let done = change
 pub count-changes-spec : {M : Type 1} → statement M
 count-changes-spec =
     tie.close (tie.spec Inv-loop μ-loop loop-holds (λ c. search needs) (λ c. search needs) (λ c. search needs)
-    (λ c. search needs) (λ c κs. search needs) add-count add-address loop-less loop-again returns)
+    (λ c. search needs) (λ c κs. search needs) (λ c. omega arith) (λ c. omega arith) (λ c. omega arith) loop-again
+    returns)

@@ -21,17 +21,8 @@ loop-holds c = (omega arith, omega arith, simp (add-zero, sub-zero))
 mul-v : tie.Need-mul-v Inv-loop μ-loop
 mul-v c = omega (arith, digits-most 16 _ _ 15 (lit< tt) (c .before .loop .inv .1) (omega arith))
 
-add-byte-at : tie.Need-add-byte-at Inv-loop μ-loop
-add-byte-at c = omega arith
-
 add-v : tie.Need-add-v Inv-loop μ-loop
 add-v c = omega (arith, digits-most 16 _ _ 15 (lit< tt) (c .before .before .before .loop .inv .1) (omega arith))
-
-add-d : tie.Need-add-d Inv-loop μ-loop
-add-d c = omega arith
-
-loop-less : tie.Need-loop-less Inv-loop μ-loop
-loop-less c = omega arith
 
 loop-again : tie.Need-loop-again Inv-loop μ-loop
 loop-again c = (omega arith, digit-more 16 _ _ _ (c .before .before .before .loop .inv .1) (c .hex-of .ensures .1), c .before .before .before .loop .inv .2 ∙ hex-next _ _ _ _ (c .before .before .loop-test .taken) _ (c .before .byte-at .ensures) _ _ (c .hex-of .ensures .0))
@@ -41,5 +32,5 @@ returns c = sym (c .before .loop .inv .2 ∙ hex-done _ _ _ _ (c .loop-test .lef
 
 pub hex-number-spec : {M : Type 1} → statement M
 hex-number-spec =
-    tie.close (tie.spec Inv-loop μ-loop loop-holds mul-v add-byte-at (λ c κs. search needs) (λ c κs. search needs)
-    add-v add-d loop-less loop-again returns)
+    tie.close (tie.spec Inv-loop μ-loop loop-holds mul-v (λ c. omega arith) (λ c κs. search needs)
+    (λ c κs. search needs) add-v (λ c. omega arith) (λ c. omega arith) loop-again returns)

@@ -16,9 +16,6 @@ abbrev μ-loop : tie.MeasureT-loop
 loop-holds : tie.Need-loop-holds Inv-loop μ-loop
 loop-holds c = (omega arith, c .fits .n .fits, (c .args .n, omega arith, refl))
 
-div-rest : tie.Need-div-rest Inv-loop μ-loop
-div-rest c = omega arith
-
 add-k : tie.Need-add-k Inv-loop μ-loop
 add-k c = omega (arith, c .before .before .pre)
 
@@ -32,5 +29,4 @@ returns : tie.Need-returns Inv-loop μ-loop
 returns c = omega (arith, places-last (c .before .loop .inv .2 .0) _ _ (c .loop-test .left), c .before .loop .inv .2 .2)
 
 pub places-spec : {M : Type 1} → statement M
-places-spec =
-    tie.close (tie.spec Inv-loop μ-loop loop-holds div-rest add-k loop-less loop-again returns)
+places-spec = tie.close (tie.spec Inv-loop μ-loop loop-holds (λ c. omega arith) add-k loop-less loop-again returns)

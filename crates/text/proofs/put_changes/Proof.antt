@@ -19,12 +19,6 @@ abbrev μ-loop : tie.MeasureT-loop
 loop-holds : tie.Need-loop-holds Inv-loop μ-loop
 loop-holds c = (omega arith, refl, omega arith, λ m q w. rw sub-zero at w)
 
-put-change-requires : tie.Need-put-change-requires Inv-loop μ-loop
-put-change-requires c κs = omega arith
-
-loop-less : tie.Need-loop-less Inv-loop μ-loop
-loop-less c = omega arith
-
 loop-again : tie.Need-loop-again Inv-loop μ-loop
 loop-again c = (omega arith, c .before .before .put-change .kept .0 ∙ c .before .before .before .before .before .before .before .loop .inv .1, omega (arith, c .before .before .put-change .ensures .1), λ m q w. c .before .before .before .before .before .before .before .loop .inv .3 m q (wrote-as (words-next _ _ _ _ (c .before .before .before .before .before .before .loop-test .taken)) (then (c .before .before .put-change .ensures .0) w)))
 
@@ -37,4 +31,4 @@ returns c = c .before .loop .inv .3 _ _ (wrote-as (words-done _ _ _ _ (c .loop-t
 pub put-changes-spec : {M : Type 1} → statement M
 put-changes-spec =
     tie.close (tie.spec Inv-loop μ-loop loop-holds (λ c. search needs) (λ c. search needs) (λ c. search needs)
-    (λ c. search needs) put-change-requires (λ c. search needs) loop-less loop-again same-length returns)
+    (λ c. search needs) (λ c κs. omega arith) (λ c. search needs) (λ c. omega arith) loop-again same-length returns)

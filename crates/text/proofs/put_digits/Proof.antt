@@ -19,23 +19,8 @@ abbrev μ-loop : tie.MeasureT-loop
 loop-holds : tie.Need-loop-holds Inv-loop μ-loop
 loop-holds c = (omega arith, refl, refl)
 
-sub-i : tie.Need-sub-i Inv-loop μ-loop
-sub-i c = omega arith
-
-add-put-byte : tie.Need-add-put-byte Inv-loop μ-loop
-add-put-byte c = omega arith
-
-rem-glyph : tie.Need-rem-glyph Inv-loop μ-loop
-rem-glyph c = omega arith
-
 glyph-requires : tie.Need-glyph-requires Inv-loop μ-loop
 glyph-requires c κs = lt-of-lt-of-le (mod-lt _ (c .before .before .before .before .pre .2)) (c .before .before .before .before .pre .3)
-
-div-rest : tie.Need-div-rest Inv-loop μ-loop
-div-rest c = omega arith
-
-loop-less : tie.Need-loop-less Inv-loop μ-loop
-loop-less c = omega arith
 
 loop-again : tie.Need-loop-again Inv-loop μ-loop
 loop-again c = (omega arith, c .before .before .put-byte .kept .0 ∙ c .before .before .before .before .before .before .loop .inv .1, c .before .before .before .before .before .before .loop .inv .2 ∙ digits-next _ _ _ _ _ (c .before .before .before .before .before .loop-test .taken) ∙ simp (← c .before .before .before .glyph .ensures, c .before .before .put-byte .ensures))
@@ -48,5 +33,5 @@ returns c = sym (c .before .loop .inv .2 ∙ digits-done _ _ _ _ _ (c .loop-test
 
 pub put-digits-spec : {M : Type 1} → statement M
 put-digits-spec =
-    tie.close (tie.spec Inv-loop μ-loop loop-holds sub-i add-put-byte rem-glyph glyph-requires (λ c κs. search needs)
-    div-rest loop-less loop-again same-length returns)
+    tie.close (tie.spec Inv-loop μ-loop loop-holds (λ c. omega arith) (λ c. omega arith) (λ c. omega arith)
+    glyph-requires (λ c κs. search needs) (λ c. omega arith) (λ c. omega arith) loop-again same-length returns)

@@ -19,15 +19,6 @@ abbrev μ-loop : tie.MeasureT-loop
 loop-holds : tie.Need-loop-holds Inv-loop μ-loop
 loop-holds c = (omega arith, omega arith, refl, omega arith, λ m q w. w)
 
-add-put-number : tie.Need-add-put-number Inv-loop μ-loop
-add-put-number c = omega arith
-
-add-i : tie.Need-add-i Inv-loop μ-loop
-add-i c = omega arith
-
-loop-less : tie.Need-loop-less Inv-loop μ-loop
-loop-less c = omega arith
-
 loop-again : tie.Need-loop-again Inv-loop μ-loop
 loop-again c = (omega arith, omega arith, c .before .before .put-number2 .kept .0 ∙ c .before .before .before .before .before .before .before .put-byte .kept .0 ∙ c .before .before .before .before .before .before .before .before .before .before .loop .inv .2, omega (arith, c .before .before .put-number2 .ensures .1), λ m q w. c .before .before .before .before .before .before .before .before .before .before .loop .inv .4 m q (wrote-as (commas-next _ _ _ (c .before .before .before .before .before .before .before .before .before .loop-test .taken)) (then (then (wrote-byte (c .before .before .before .before .before .before .before .put-byte .ensures)) (c .before .before .put-number2 .ensures .0)) w)))
 
@@ -40,5 +31,5 @@ returns c = let e : c .before .loop .i ≡ length (now (c .before .before .befor
 pub put-list-spec : {M : Type 1} → statement M
 put-list-spec =
     tie.close (tie.spec Inv-loop μ-loop (λ c. search needs) (λ c κs. search needs) loop-holds (λ c κs. search needs)
-    add-put-number (λ c. search needs) (λ c. search needs) (λ c κs. search needs) add-i loop-less loop-again
-    same-length returns)
+    (λ c. omega arith) (λ c. search needs) (λ c. search needs) (λ c κs. search needs) (λ c. omega arith)
+    (λ c. omega arith) loop-again same-length returns)

@@ -19,20 +19,8 @@ abbrev μ-loop : tie.MeasureT-loop
 loop-holds : tie.Need-loop-holds Inv-loop μ-loop
 loop-holds c = (omega arith, simp add-zero)
 
-add-byte-at : tie.Need-add-byte-at Inv-loop μ-loop
-add-byte-at c = omega arith
-
-shared-slice-read-if1 : tie.Need-shared-slice-read-if1 Inv-loop μ-loop
-shared-slice-read-if1 c = omega arith
-
 returns : tie.Need-returns Inv-loop μ-loop
 returns c = sym (c .before .before .before .before .loop .inv .1 ∙ starts-not _ _ _ _ (c .before .before .before .loop-test .taken) (λ q. c .if1 .taken (c .before .before .byte-at .ensures ∙ q)))
-
-add-i : tie.Need-add-i Inv-loop μ-loop
-add-i c = omega arith
-
-loop-less : tie.Need-loop-less Inv-loop μ-loop
-loop-less c = omega arith
 
 loop-again : tie.Need-loop-again Inv-loop μ-loop
 loop-again c = (omega arith, c .before .before .before .before .loop .inv .1 ∙ starts-next _ _ _ _ (c .before .before .before .loop-test .taken) (sym (c .before .before .byte-at .ensures) ∙ c .if1 .left))
@@ -42,5 +30,5 @@ returns-2 c = let e : c .before .loop .i ≡ length (now (c .before .before .bef
 
 pub starts-spec : {M : Type 1} → statement M
 starts-spec =
-    tie.close (tie.spec Inv-loop μ-loop loop-holds add-byte-at (λ c κs. search needs) shared-slice-read-if1 returns
-    add-i loop-less loop-again returns-2)
+    tie.close (tie.spec Inv-loop μ-loop loop-holds (λ c. omega arith) (λ c κs. search needs) (λ c. omega arith)
+    returns (λ c. omega arith) (λ c. omega arith) loop-again returns-2)

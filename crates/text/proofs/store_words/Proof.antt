@@ -17,18 +17,6 @@ abbrev μ-loop : tie.MeasureT-loop
 loop-holds : tie.Need-loop-holds Inv-loop μ-loop
 loop-holds c = (omega arith, refl, refl, refl)
 
-add-hex-number : tie.Need-add-hex-number Inv-loop μ-loop
-add-hex-number c = omega arith
-
-add-at : tie.Need-add-at Inv-loop μ-loop
-add-at c = omega arith
-
-sub-left : tie.Need-sub-left Inv-loop μ-loop
-sub-left c = omega arith
-
-loop-less : tie.Need-loop-less Inv-loop μ-loop
-loop-less c = omega arith
-
 loop-again : tie.Need-loop-again Inv-loop μ-loop
 loop-again c = (omega arith, omega arith, c .before .before .store .kept .0 ∙ c .before .before .before .before .before .before .before .loop .inv .2, c .before .before .before .before .before .before .before .loop .inv .3 ∙ stored-next _ _ _ _ (c .before .before .before .before .before .before .loop-test .taken) ∙ simp (← c .before .before .before .before .before .hex-number .ensures, ← c .before .before .before .before .hex-number2 .ensures, c .before .before .store .ensures))
 
@@ -40,5 +28,5 @@ returns c = sym (c .before .loop .inv .3 ∙ stored-done _ _ _ _ (c .loop-test .
 
 pub store-words-spec : {M : Type 1} → statement M
 store-words-spec =
-    tie.close (tie.spec Inv-loop μ-loop loop-holds (λ c κs. search needs) add-hex-number (λ c κs. search needs)
-    (λ c κs. search needs) add-at sub-left loop-less loop-again same-length returns)
+    tie.close (tie.spec Inv-loop μ-loop loop-holds (λ c κs. search needs) (λ c. omega arith) (λ c κs. search needs)
+    (λ c κs. search needs) (λ c. omega arith) (λ c. omega arith) (λ c. omega arith) loop-again same-length returns)
