@@ -165,11 +165,7 @@ fn arm(code: u64) -> u64
 fn held(holds: bool) -> Work
     ensures { λ w. ⌜ w ≡ pick holds PastOne NotHeld ⌝ }
 {
-    if holds {
-        Work::PastOne
-    } else {
-        Work::NotHeld
-    }
+    if holds { Work::PastOne } else { Work::NotHeld }
 }
 
 // 140 to 145 and 154 to 157: all 64 elements, or as many as VL says.

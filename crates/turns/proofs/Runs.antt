@@ -69,9 +69,9 @@ pub turn-fitting : (r r′ mem mem′ : List ℕ) (budget : ℕ) (l : Last) (n :
     → turned l n (stateOf r′) (sharing mem′) ≡ turnOf budget Nothing 0 (stateOf r) (sharing mem) → Fitting r′ (length mem′) × (getD r′ 0 0 < 2 ^ 24) × (length mem′ ≡ length mem)
 turn-fitting r r′ mem mem′ budget l n f p long e =
     let start : Fine (length mem) (stateOf r) (sharing mem)
-          = record { frame = f .frame; control = f .control; processor = f .processor; p = p; long = refl } in
+    = record { frame = f .frame; control = f .control; processor = f .processor; p = p; long = refl } in
     let end : Fine (length mem) (stateOf r′) (sharing mem′)
-          = rw (← e) at (turn-keeps (Fine (length mem)) (step-fine (length mem)) budget Nothing 0 (stateOf r) (sharing mem) start) in (
+    = rw (← e) at (turn-keeps (Fine (length mem)) (step-fine (length mem)) budget Nothing 0 (stateOf r) (sharing mem) start) in (
       record { long = long; frame = end .frame; control = end .control; processor = end .processor; least = omega (arith, end .long, f .least); most = omega (arith, end .long, f .most) },
       end .p,
       end .long,

@@ -104,8 +104,7 @@ pair-allowed pair len schedule long e =
     let s = and-eq-true-iff (stateFits x) (stateFits y) .0 (held _ (f .0)) in
     let m = held _ (a .0) in
     let one = fitting (part 0 672 pair) len (part-long pair 0 long (omega arith)) m (omega (arith, eqb-true (x .frame .processor) 0 (n .0))) (s .0) in
-    let two = fitting (part 672 672 pair) len (part-long pair 672 long (omega arith)) m (omega (arith, eqb-true (y .frame .processor) 1 (n .1))) (s .1) in
-    (
+    let two = fitting (part 672 672 pair) len (part-long pair 672 long (omega arith)) m (omega (arith, eqb-true (y .frame .processor) 1 (n .1))) (s .1) in (
       (long, omega (arith, ltb-false 65536 (length schedule) (c .0))),
       ((one .0, two .0), (rw (← part-at 0 672 pair 0 (omega arith)) (one .1), rw (← part-at 672 672 pair 0 (omega arith)) (two .1))),
     )
