@@ -55,14 +55,15 @@ fitting r len long m n e =
     (record { long = long; frame = f .frame; control = f .control; processor = n; least = k .0; most = k .1 }, f .p)
 
 module _ (r : List ℕ) (len : ℕ) (long : length r ≡ 672) where
-  pub step-allowed : stepRefusal len (stateOf r) ≡ 0 → Fitting r len × ((getD r 0 0 < 2 ^ 24) × (1 ≤ 1000000))
+  pub step-allowed : (budget : ℕ) → budget ≤ 1000000 → stepRefusal len (stateOf r) ≡ 0
+      → Fitting r len × ((getD r 0 0 < 2 ^ 24) × (budget ≤ 1000000))
   unfolding stepRefusal
-  step-allowed e =
+  step-allowed budget small e =
       let a = passed 1 _ _ (λ z. omega arith) e in
       let b = passed 4 _ _ (λ z. omega arith) (a .1) in
       let c = passed 7 _ _ (λ z. omega arith) (b .1) in
       let k = fitting r len long (held _ (a .0)) (omega (arith, ltb-false 1 (stateOf r .frame .processor) (b .0))) (held _ (c .0)) in
-      (k .0, (k .1, omega arith))
+      (k .0, (k .1, small))
 
   pub run-allowed : (budget : ℕ) → runRefusal len (stateOf r) budget ≡ 0 → Fitting r len × ((getD r 0 0 < 2 ^ 24) × (budget ≤ 1000000))
   unfolding runRefusal

@@ -1,5 +1,6 @@
 use borrow.Author.Tests.{ne-eqb}
 use mathlib.Core.Path.{refl, sym, _∙_}
+use native.Mathlib.Omega.{arith}
 use Rattle.machine.specs.Call.{Replied, replyNumbers, stepCall}
 use Rattle.xmp.proofs.Allowed.{told, step-allowed, stepped}
 use borrow.Author.Needs.{needs}
@@ -13,7 +14,7 @@ returns c = rw (← c .before .of-step .ensures, ne-eqb _ 0 (c .if1 .taken)) (re
 turn-requires : tie.Need-turn-requires
 turn-requires c κs =
     let of-step = c .before .before .before .of-step in
-    step-allowed _ _ (search needs) (sym (of-step .ensures) ∙ c .before .before .if1 .left)
+    step-allowed _ _ (search needs) _ (omega arith) (sym (of-step .ensures) ∙ c .before .before .if1 .left)
 
 returns-2 : tie.Need-returns-2
 unfolding stepCall
