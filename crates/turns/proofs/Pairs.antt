@@ -32,28 +32,14 @@ use Rattle.turns.specs.Pair.{Side, sideOf, windowOf, pairAt, endAt, endB
 use Rattle.turns.proofs.Steps.{steps-on, steps-last, ready-on, narrow-at, fits}
 use Rattle.turns.proofs.Lent.{part-long}
 
--- the two sides
-module _ (at : ℕ) (side : Side at) where
-  -- the other side, and back
-  other-side : Side (672 - at)
-  other-side = (omega arith, ⊎-elim (λ e. inr (omega arith)) (λ e. inl (omega arith)) (side .1))
+-- with both P in their places, a run and its end are the same seen from either side
+module _ (at : ℕ) (side : Side at) (l : Last) (n : ℕ) (pair : List ℕ) (sh : Shared) where
+  run-in-order : (bytes : List ℕ)
+      → pairAt at bytes l n (stateOf (part at 672 pair)) (stateOf (part (672 - at) 672 pair)) sh ≡ pairOf bytes l n (firstOf pair) (secondOf pair) sh
+  run-in-order bytes = ⊎-elim (λ e. rw e) (λ e. rw e) (side .1)
 
-  twice : 672 - (672 - at) ≡ at
-  twice = omega (arith, side .0)
-
-  -- the one that a byte names, if it is not this
-  pub elsewhere : (byte : ℕ) → (sideOf byte ≡ at → ⊥) → sideOf byte ≡ 672 - at
-  elsewhere zero h = ⊎-elim (λ e. absurd (h (sym e))) (λ e. omega arith) (side .1)
-  elsewhere (suc b) h = ⊎-elim (λ e. omega arith) (λ e. absurd (h (sym e))) (side .1)
-
-  -- the same run seen from the other
-  from-other : (bytes : List ℕ) (l : Last) (n : ℕ) (x y : State) (sh : Shared) → pairAt (672 - at) bytes l n y x sh ≡ pairAt at bytes l n x y sh
-  from-other bytes l n x y sh = ⊎-elim (λ e. rw e) (λ e. rw e) (side .1)
-
-  -- the end of a run, both P in their places
-  in-order : (l : Last) (n : ℕ) (pair : List ℕ) (sh : Shared)
-      → pairEnded l n (firstOf pair) (secondOf pair) sh ≡ endAt at l n (stateOf (part at 672 pair)) (stateOf (part (672 - at) 672 pair)) sh
-  in-order l n pair sh = ⊎-elim (λ e. rw e) (λ e. rw e) (side .1)
+  end-in-order : pairEnded l n (firstOf pair) (secondOf pair) sh ≡ endAt at l n (stateOf (part at 672 pair)) (stateOf (part (672 - at) 672 pair)) sh
+  end-in-order = ⊎-elim (λ e. rw e) (λ e. rw e) (side .1)
 
 -- any byte but 0 names the second
 pub second-side : (byte : ℕ) → (byte ≡ 0 → ⊥) → 672 ≡ sideOf byte
@@ -64,15 +50,36 @@ second-side (suc b) h = refl
 p-at : (at : ℕ) (pair : List ℕ) → getD (part at 672 pair) 0 0 ≡ getD pair at 0
 p-at at pair = let z : at + 0 ≡ at = omega arith in rw z at (part-at at 672 pair 0 (omega arith))
 
--- P of the one whose step was next is stored, and the other's is loaded
-module _ (a : Next) (f g : Reach) (pair pair′ : List ℕ) (at : ℕ) (window : Reach) (side : Side (a .at)) (whole : length pair′ ≡ 1344) (e : at ≡ 672 - a .at)
-    (own : window ≡ windowOf at f g) (stored : stateOf (part (a .at) 672 pair′) ≡ stateAt (a .p) (part (a .at) 672 pair))
-    (kept : part (672 - a .at) 672 pair′ ≡ part (672 - a .at) 672 pair) where
-  turned : 672 - at ≡ a .at
-  turned = rw e (twice (a .at) side)
+-- both may go on, their P in their places
+pub record Stored (f g : Reach) (pair : List ℕ) (len : ℕ) : Type 0 where
+  pub first : Ready (part 0 672 pair) f len
+  pub second : Ready (part 672 672 pair) g len
+  pub narrow : (getD pair 0 0 < 2 ^ 24) × (getD pair 672 0 < 2 ^ 24)
 
-  ready-there : (len : ℕ) → Ready (part (a .at) 672 pair) (windowOf (a .at) f g) len → Ready (part (a .at) 672 pair′) (windowOf (a .at) f g) len
-  ready-there len h =
+-- P is loaded of either
+module _ (f g : Reach) (pair : List ℕ) (byte : ℕ) where
+  abbrev first : Next
+  first = record { at = 0; p = addr (getD pair 0 0); f = f; byte = byte }
+
+  abbrev second : Next
+  second = record { at = 672; p = addr (getD pair 672 0); f = g; byte = byte }
+
+  first-stands : (len : ℕ) → Stored f g pair len → Standing first f g pair len
+  first-stands len s =
+      let q : getD (part 672 672 pair) 0 0 < 2 ^ 24 = rw (p-at 672 pair) (s .narrow .1) in
+      record { side = (omega arith, inl refl); narrow = s .narrow .0; other = q; window = refl; here = s .first; there = s .second }
+
+  second-stands : (len : ℕ) → Stored f g pair len → Standing second f g pair len
+  second-stands len s =
+      let q : getD (part 0 672 pair) 0 0 < 2 ^ 24 = rw (p-at 0 pair) (s .narrow .0) in
+      record { side = (omega arith, inr refl); narrow = s .narrow .1; other = q; window = refl; here = s .second; there = s .first }
+
+-- P of the one whose step was next is stored
+module _ (a : Next) (f g : Reach) (pair pair′ : List ℕ) (side : Side (a .at)) (whole : length pair′ ≡ 1344)
+    (stored : stateOf (part (a .at) 672 pair′) ≡ stateAt (a .p) (part (a .at) 672 pair))
+    (kept : part (672 - a .at) 672 pair′ ≡ part (672 - a .at) 672 pair) where
+  ready-stored : (len : ℕ) → Ready (part (a .at) 672 pair) (a .f) len → Ready (part (a .at) 672 pair′) (a .f) len
+  ready-stored len h =
       let fr : frameOf (part (a .at) 672 pair′) ≡ frameOf (part (a .at) 672 pair) = ap (λ (s : State). s .frame) stored in
       let rs : registersOf (part (a .at) 672 pair′) ≡ registersOf (part (a .at) 672 pair) = ap (λ (s : State). s .registers) stored in
       record {
@@ -83,26 +90,26 @@ module _ (a : Next) (f g : Reach) (pair pair′ : List ℕ) (at : ℕ) (window :
         processor = rw fr (h .processor);
       }
 
-  pub passes : Passes a (record { at = at; p = addr (getD pair′ at 0); f = window }) f g pair pair′
-  passes =
-      record {
-        stands = λ len s.
-            let p : getD pair′ at 0 ≡ getD (part (672 - a .at) 672 pair) 0 0 = sym (p-at at pair′) ∙ rw (e, kept) in
-            let q : getD (part (a .at) 672 pair′) 0 0 ≡ a .p .0 = ap (λ (s : State). s .p .0) stored in
-            record {
-              side = rw e (other-side (a .at) side);
-              narrow = rw p (s .other);
-              other = rw (turned, q) (s .narrow);
-              window = own;
-              here = rw (own, e, kept) (s .there);
-              there = rw turned (ready-there len (subst (λ (h : Reach). Ready (part (a .at) 672 pair) h len) (s .window) (s .here)));
-            };
-        same = λ bytes l n sh. rw (← p-at at pair′, turned, stored, e, kept) (from-other (a .at) side bytes l n _ _ sh);
-      }
+  stores : (len : ℕ) → Standing a f g pair len → Stored f g pair′ len
+  stores len s =
+      let x : Ready (part (a .at) 672 pair′) (windowOf (a .at) f g) len
+      = subst (λ (h : Reach). Ready (part (a .at) 672 pair′) h len) (s .window) (ready-stored len (s .here)) in
+      let y : Ready (part (672 - a .at) 672 pair′) (windowOf (672 - a .at) f g) len = rw kept (s .there) in
+      let p : getD pair′ (a .at) 0 < 2 ^ 24 = rw (← p-at (a .at) pair′, ap (λ (s : State). s .p .0) stored) (s .narrow) in
+      let q : getD pair′ (672 - a .at) 0 < 2 ^ 24 = rw (← p-at (672 - a .at) pair′, kept) (s .other) in
+      ⊎-elim (λ e. record { first = rw e at x; second = rw e at y; narrow = (rw e at p, rw e at q) })
+      (λ e. record { first = rw e at y; second = rw e at x; narrow = (rw e at q, rw e at p) }) (side .1)
 
--- it stays with the same one
-pub passes-not : (a : Next) (f g : Reach) (pair : List ℕ) → Passes a a f g pair pair
-passes-not a f g pair = record { stands = λ len s. s; same = λ bytes l n sh. refl }
+  same-run : (bytes : List ℕ) (l : Last) (n : ℕ) (sh : Shared) → pairOf bytes l n (firstOf pair′) (secondOf pair′) sh ≡ pairFrom a bytes l n pair sh
+  same-run bytes l n sh = sym (run-in-order (a .at) side l n pair′ sh bytes) ∙ rw (stored, kept)
+
+  pub passes-first : (byte : ℕ) → Passes a (first f g pair′ byte) f g pair pair′
+  passes-first byte =
+      record { stands = λ len s. first-stands f g pair′ byte len (stores len s); same = λ bytes l n sh. rw (← p-at 0 pair′) (same-run bytes l n sh) }
+
+  pub passes-second : (byte : ℕ) → Passes a (second f g pair′ byte) f g pair pair′
+  passes-second byte =
+      record { stands = λ len s. second-stands f g pair′ byte len (stores len s); same = λ bytes l n sh. rw (← p-at 672 pair′) (same-run bytes l n sh) }
 
 -- one step of a pair run with bytes left, of the one that the next byte names
 module _ (schedule : List ℕ) (n at : ℕ) (l : Last) (k : ℕ) (x y : State) (sh : Shared) (some : n < length schedule)
@@ -134,72 +141,97 @@ pub record Along (schedule pair₀ mem₀ pair mem : List ℕ) (f g : Reach) (a 
   pub whole : length pair ≡ 1344
   pub long : length mem ≡ length mem₀
   pub least : 4096 ≤ length mem₀
+  pub named : a .at ≡ sideOf (a .byte)
   pub rest : pairFrom a (drop n schedule) (lastAfter n) n pair (sharing mem) ≡ pairOf schedule Nothing 0 (firstOf pair₀) (secondOf pair₀) (sharing mem₀)
   pub stands : Standing a f g pair (length mem)
 
 -- at the start
-pub begins : (schedule pair mem : List ℕ) (f g : Reach) → length pair ≡ 1344 → 4096 ≤ length mem → Ready (part 0 672 pair) f (length mem)
-    → Ready (part 672 672 pair) g (length mem) → getD pair 0 0 < 2 ^ 24 → getD pair 672 0 < 2 ^ 24 → Along schedule pair mem pair mem f g (record { at = 0; p = addr (getD pair 0 0); f = f }) 0
-begins schedule pair mem f g whole least x y p q =
+pub begins : (schedule pair mem : List ℕ) (f g : Reach) → length pair ≡ 1344 → 4096 ≤ length mem → Stored f g pair (length mem)
+    → Along schedule pair mem pair mem f g (first f g pair 0) 0
+begins schedule pair mem f g whole least s =
     record {
       within = omega arith;
-      stands = record { side = (omega arith, inl refl); narrow = p; other = rw (p-at 672 pair) q; window = refl; here = x; there = y };
       whole = whole;
       long = refl;
       least = least;
+      named = refl;
       rest = rw (p-at 0 pair);
+      stands = first-stands f g pair 0 (length mem) s;
     }
 
--- the step of b, to which it passed, at its P; its work is w, leaving pair″ and mem′
-module _ (schedule pair₀ mem₀ pair pair′ pair″ mem mem′ : List ℕ) (f g : Reach) (a b : Next) (n : ℕ) (w : Work)
-    (h : Along schedule pair₀ mem₀ pair mem f g a n) (some : n < length schedule) (named : b .at ≡ sideOf (getD schedule n 0))
-    (passed : Passes a b f g pair pair′) (did : Works w (part (b .at) 672 pair′) (part (b .at) 672 pair″) mem mem′ (b .p .0))
-    (kept : part (672 - b .at) 672 pair″ ≡ part (672 - b .at) 672 pair′) (whole : length pair″ ≡ 1344) where
-  stood : Standing b f g pair′ (length mem)
-  stood = passed .stands (length mem) (h .stands)
+-- the next byte names the one whose step is next: it passed to it, or it was the same byte before
+module _ (schedule pair₀ mem₀ pair mem : List ℕ) (f g : Reach) (a : Next) (n : ℕ) (h : Along schedule pair₀ mem₀ pair mem f g a n)
+    (pair′ : List ℕ) (b : Next) where
+  abbrev Named : Type 0
+  Named = Along schedule pair₀ mem₀ pair′ mem f g b n × (b .at ≡ sideOf (getD schedule n 0))
 
-  after : (length mem′ ≡ length mem) × Ready (part (b .at) 672 pair″) (b .f) (length mem′) × Narrow w
-  after = ready-on w (part (b .at) 672 pair′) (part (b .at) 672 pair″) mem mem′ (b .p) did (b .f) (stood .here) (part-long (b .at) pair″ (stood .side) whole)
+  pub passed : (l : List ℕ) (to : Next) → Passes a to f g pair l → (to .at ≡ sideOf (getD schedule n 0)) × (to .byte ≡ getD schedule n 0) → length l ≡ 1344
+      → pair′ ≡ l → b ≡ to → Named
+  passed l to t named whole e d = rw (e, d) (
+    record {
+      within = h .within;
+      whole = whole;
+      long = h .long;
+      least = h .least;
+      named = rw (named .1) (named .0);
+      rest = t .same (drop n schedule) (lastAfter n) n (sharing mem) ∙ h .rest;
+      stands = t .stands (length mem) (h .stands);
+    },
+    named .0,
+  )
 
-  here-rest : pairFrom b (drop n schedule) (lastAfter n) n pair′ (sharing mem) ≡ pairOf schedule Nothing 0 (firstOf pair₀) (secondOf pair₀) (sharing mem₀)
-  here-rest = passed .same (drop n schedule) (lastAfter n) n (sharing mem) ∙ h .rest
+  pub stayed : getD schedule n 0 ≡ a .byte → pair′ ≡ pair → b ≡ a → Named
+  stayed same e d = rw (e, d) (h, rw same (h .named))
 
-  pub goes-on : (q : ParcelAddr) → movedTo (b .p .0) w ≡ At q → Along schedule pair₀ mem₀ pair″ mem′ f g (record { at = b .at; p = q; f = b .f }) (n + 1)
+-- the step of a at its P; its work is w, leaving pair′ and mem′
+module _ (schedule pair₀ mem₀ pair pair′ mem mem′ : List ℕ) (f g : Reach) (a : Next) (n : ℕ) (w : Work)
+    (h : Along schedule pair₀ mem₀ pair mem f g a n × (a .at ≡ sideOf (getD schedule n 0))) (some : n < length schedule)
+    (did : Works w (part (a .at) 672 pair) (part (a .at) 672 pair′) mem mem′ (a .p .0))
+    (kept : part (672 - a .at) 672 pair′ ≡ part (672 - a .at) 672 pair) (whole : length pair′ ≡ 1344) where
+  stood : Standing a f g pair (length mem)
+  stood = h .0 .stands
+
+  after : (length mem′ ≡ length mem) × Ready (part (a .at) 672 pair′) (a .f) (length mem′) × Narrow w
+  after = ready-on w (part (a .at) 672 pair) (part (a .at) 672 pair′) mem mem′ (a .p) did (a .f) (stood .here) (part-long (a .at) pair′ (stood .side) whole)
+
+  pub goes-on : (q : ParcelAddr) → movedTo (a .p .0) w ≡ At q
+      → Along schedule pair₀ mem₀ pair′ mem′ f g (record { at = a .at; p = q; f = a .f; byte = a .byte }) (n + 1)
   goes-on q e =
       let s : n + 1 ≡ suc n = omega arith in
       let more : lastAfter (n + 1) ≡ Was Stepped = ap lastAfter s in
-      let y : State = stateOf (part (672 - b .at) 672 pair′) in
-      let on = pair-on schedule n (b .at) (lastAfter n) n (stateAt (b .p) (part (b .at) 672 pair′)) y (sharing mem) some named
-      (stateAt q (part (b .at) 672 pair″)) (sharing mem′) (steps-on w (part (b .at) 672 pair′) (part (b .at) 672 pair″) mem mem′ (b .p) did q e) in
+      let y : State = stateOf (part (672 - a .at) 672 pair) in
+      let on = pair-on schedule n (a .at) (lastAfter n) n (stateAt (a .p) (part (a .at) 672 pair)) y (sharing mem) some (h .1)
+      (stateAt q (part (a .at) 672 pair′)) (sharing mem′) (steps-on w (part (a .at) 672 pair) (part (a .at) 672 pair′) mem mem′ (a .p) did q e) in
       record {
         within = omega (arith, some);
+        whole = whole;
+        long = after .0 ∙ h .0 .long;
+        least = h .0 .least;
+        named = h .0 .named;
+        rest = rw (more, kept) (sym on ∙ h .0 .rest);
         stands = record {
           side = stood .side;
-          narrow = narrow-at w (b .p) q e (after .2);
+          narrow = narrow-at w (a .p) q e (after .2);
           other = rw kept (stood .other);
           window = stood .window;
           here = after .1;
           there = rw (kept, after .0) (stood .there);
         };
-        whole = whole;
-        long = after .0 ∙ h .long;
-        least = h .least;
-        rest = rw (more, kept) (sym on ∙ here-rest);
       }
 
-  pub ends : movedTo (b .p .0) w ≡ Ends → Comes (b .at) (b .p) n w schedule pair₀ pair″ mem₀ mem′
+  pub ends : movedTo (a .p .0) w ≡ Ends → Comes (a .at) (a .p) n w schedule pair₀ pair′ mem₀ mem′
   ends e =
-      let s = steps-last w (part (b .at) 672 pair′) (part (b .at) 672 pair″) mem mem′ (b .p) did e in
+      let s = steps-last w (part (a .at) 672 pair) (part (a .at) 672 pair′) mem mem′ (a .p) did e in
       let ne : eqb n (length schedule) ≡ false = ne-eqb n (length schedule) (λ z. omega (arith, some)) in
-      let y : State = stateOf (part (672 - b .at) 672 pair′) in
-      let end = pair-ends schedule n (b .at) (lastAfter n) n (stateAt (b .p) (part (b .at) 672 pair′)) y (sharing mem) some named _ (s .0) (s .1) in
+      let y : State = stateOf (part (672 - a .at) 672 pair) in
+      let end = pair-ends schedule n (a .at) (lastAfter n) n (stateAt (a .p) (part (a .at) 672 pair)) y (sharing mem) some (h .1) _ (s .0) (s .1) in
       record {
         side = stood .side;
-        fitting = fits (part (b .at) 672 pair″) (b .f) (length mem′) (after .1) (omega (arith, after .0, h .long, h .least));
+        fitting = fits (part (a .at) 672 pair′) (a .f) (length mem′) (after .1) (omega (arith, after .0, h .0 .long, h .0 .least));
         narrow = stood .narrow;
         work = after .2;
         steps = omega (arith, some);
-        run = rw (ne, kept) (sym end ∙ here-rest);
+        run = rw (ne, kept) (sym end ∙ h .0 .rest);
       }
 
 -- all steps are taken
@@ -224,12 +256,12 @@ module _ (at : ℕ) (p : ParcelAddr) (n : ℕ) (w : Work) (schedule pair pair′
   pub pair-spent : n ≡ length schedule → stateOf (part at 672 pair″) ≡ stateAt p (part at 672 pair′)
       → pairEnded (lastAfter n) n (firstOf pair″) (secondOf pair″) (sharing mem′) ≡ pairOf schedule Nothing 0 (firstOf pair) (secondOf pair) (sharing mem)
   pair-spent e stored =
-      in-order at (h .side) (lastAfter n) n pair″ (sharing mem′) ∙ rw (stored, kept) (rw (eq-eqb n (length schedule) e) at (h .run))
+      end-in-order at (h .side) (lastAfter n) n pair″ (sharing mem′) ∙ rw (stored, kept) (rw (eq-eqb n (length schedule) e) at (h .run))
 
   pub pair-finished : (n ≡ length schedule → ⊥) → (o : Answer) (mem″ : List ℕ)
       → out o (stateOf (part at 672 pair″)) (sharing mem″) ≡ finish (stateAt p (part at 672 pair′)) w (registersOf (part at 672 pair′)) (sharing mem′)
       → pairEnded (Was o) (n + counted o) (firstOf pair″) (secondOf pair″) (sharing mem″)
       ≡ pairOf schedule Nothing 0 (firstOf pair) (secondOf pair) (sharing mem)
   pair-finished ne o mem″ e =
-      in-order at (h .side) (Was o) (n + counted o) pair″ (sharing mem″) ∙ ap (λ (d : Out). endBy at n d (stateOf (part (672 - at) 672 pair″))) e
+      end-in-order at (h .side) (Was o) (n + counted o) pair″ (sharing mem″) ∙ ap (λ (d : Out). endBy at n d (stateOf (part (672 - at) 672 pair″))) e
       ∙ rw kept (rw (ne-eqb n (length schedule) ne) at (h .run))

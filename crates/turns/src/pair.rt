@@ -10,7 +10,7 @@ ghost use Rattle.machine.specs.Layout.{part, registersOf, stateOf, firstOf, sec
 ghost use Rattle.dispatch.specs.Table.{Ready, Works};
 ghost use Rattle.laws.proofs.Laws.{Narrow};
 ghost use Rattle.turns.specs.Turn.{stateAt, Fitting};
-ghost use Rattle.turns.specs.Pair.{Side, sideOf, windowOf, Passes, Comes};
+ghost use Rattle.turns.specs.Pair.{Side, sideOf, Passes, Comes};
 use crate::Moved;
 use machine::Answer;
 use machine::Last;
@@ -65,41 +65,34 @@ fn finish_at(pair: &mut [u64], mem: &mut [u64], at: usize, p: ParcelAddr, w: Wor
     crate::finish(r, mem, p, w)
 }
 
-// Where the words start of the processor that a byte names.
-fn side_of(byte: u8) -> usize
-    ensures { λ at. ⌜ (at ≡ sideOf byte) × (at ≤ 672) ⌝ }
-{
-    if byte == 0 { 0 } else { 672 }
-}
-
-fn window_of(at: usize, first: Reach, second: Reach) -> Reach
-    ensures { λ f. ⌜ f ≡ windowOf at first second ⌝ }
-{
-    if at == 0 { first } else { second }
-}
-
-// The processor whose step is next: where its words start, its P, and what it reaches.
+// The processor whose step is next: where its words start, its P, what it reaches, and the byte that named it.
 pub struct Next {
     pub at: usize,
     pub p: ParcelAddr,
     pub f: Reach,
+    pub byte: u8,
 }
 
-// The next step is of the processor that a byte names. P moves to and from its place only where that is another than before.
+// The next step is of the processor that a byte names. P of the one before goes to its place, and the other's comes from its own.
 fn pass(pair: &mut [u64], first: Reach, second: Reach, from: Next, byte: u8) -> Next
     requires { ⌜ (length (now pair) ≡ 1344) × Side (from .at) ⌝ }
-    ensures { λ to. ⌜ to .at ≡ sideOf byte ⌝ }
+    ensures { λ to. ⌜ (to .at ≡ sideOf byte) × (to .byte ≡ byte) ⌝ }
     ensures { λ to. ⌜ Passes from to first second (now (pair .entry)) (now (pair .exit)) ⌝ }
 {
-    let at = side_of(byte);
-    if at == from.at {
-        return from;
-    }
     keep_p(pair, from.at, from.p);
+    if byte == 0 {
+        return Next {
+            at: 0,
+            p: ParcelAddr(pair[0]),
+            f: first,
+            byte,
+        };
+    }
     Next {
-        at,
-        p: ParcelAddr(pair[at]),
-        f: window_of(at, first, second),
+        at: 672,
+        p: ParcelAddr(pair[672]),
+        f: second,
+        byte,
     }
 }
 
@@ -124,13 +117,17 @@ fn take(pair: &mut [u64], mem: &mut [u64], schedule: &[u8]) -> Came
         at: 0,
         p: ParcelAddr(pair[0]),
         f: first,
+        byte: 0,
     };
     let mut n: usize = 0;
     while n < schedule.len() {
-        let to = pass(pair, first, second, next, schedule[n]);
-        let at = to.at;
-        let f = to.f;
-        let p = to.p;
+        if schedule[n] != next.byte {
+            next = pass(pair, first, second, next, schedule[n]);
+        }
+        let at = next.at;
+        let f = next.f;
+        let p = next.p;
+        let byte = next.byte;
         let w = step_at(pair, mem, at, f, p);
         let Moved::At(q) = crate::move_p(p, w) else {
             return Came {
@@ -140,13 +137,12 @@ fn take(pair: &mut [u64], mem: &mut [u64], schedule: &[u8]) -> Came
                 work: w,
             };
         };
-        next = Next { at, p: q, f };
+        next = Next { at, p: q, f, byte };
         n += 1;
     }
-    let at = next.at;
     let p = next.p;
     Came {
-        at,
+        at: next.at,
         p,
         steps: n,
         work: Work::To(p),

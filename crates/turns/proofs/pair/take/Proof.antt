@@ -1,9 +1,9 @@
 use Prim.Native.Nat.{_-_}
 use mathlib.Core.Path.{refl, sym, _∙_}
-use mathlib.Core.Logic.{inl, inr}
+use mathlib.Core.Logic.{inl, inr, ⊎-elim}
 use native.Mathlib.Omega.{arith}
 use lib.ListN.{length}
-use Rattle.turns.proofs.Pairs.{Along, begins, goes-on, ends, spent}
+use Rattle.turns.proofs.Pairs.{Along, begins, passed, stayed, goes-on, ends, spent}
 use borrow.Author.Needs.{needs}
 use Rattle.turns.proofs.pair.take.Statement.{statement}
 use Rattle.turns.proofs.pair.take.Tie as tie
@@ -28,47 +28,58 @@ loop-holds : tie.Need-loop-holds Inv-loop μ-loop
 loop-holds c =
     let reach-at = c .before .before .before .before .reach-at in
     let start = c .before .before .before .before .before .before .before .before .before .before in
-    begins _ _ _ _ _ (start .pre .0 .0) (start .pre .1 .0 .0 .least) (reach-at .ensures) (c .before .reach-at2 .ensures) (start .pre .1 .1 .0) (start .pre .1 .1 .1)
+    begins _ _ _ _ _ (start .pre .0 .0) (start .pre .1 .0 .0 .least)
+    (record { first = reach-at .ensures; second = c .before .reach-at2 .ensures; narrow = start .pre .1 .1 })
 
 pass-requires : tie.Need-pass-requires Inv-loop μ-loop
 pass-requires c κs =
-    let loop = c .before .before .before .loop in
+    let loop = c .before .before .before .before .before .before .loop in
     (loop .inv .whole, loop .inv .stands .side)
 
 step-at-requires : tie.Need-step-at-requires Inv-loop μ-loop
 step-at-requires c κs =
-    let pass = c .before .before .before .before .before .before .pass in
-    let loop = c .before .before .before .before .before .before .before .before .before .before .loop in
-    let s = pass .ensures .1 .stands _ (loop .inv .stands) in ((search needs, s .side), (s .here, s .narrow))
+    let if1 = c .before .before .before .before .if1 in
+    let loop = c .before .before .before .before .before .before .before .before .loop in
+    let here = ⊎-elim (λ t. passed _ _ _ _ _ _ _ _ _ (loop .inv) _ _ _ _ (t .3 .ensures .1) (t .3 .ensures .0) (search needs) (t .6) (t .7))
+    (λ t. stayed _ _ _ _ _ _ _ _ _ (loop .inv) _ _ (t .0 .left) (t .1) (t .2)) (if1 .came) in
+    let s = here .0 .stands in ((here .0 .whole, s .side), (s .here, s .narrow))
 
 same-length : tie.Need-same-length Inv-loop μ-loop
 same-length c =
-    let start = c .before .before .before .before .before .before .before .before .before .before .before .before .before .before .before .before .before .before .before .before .before .before .before .before .before .before .before .before .before in
-    search (needs, start .pre .0 .0)
+    let if1 = c .before .before .before .before .before .before .before .before .before .before .before .before .if1 in
+    let loop = c .before .before .before .before .before .before .before .before .before .before .before .before .before .before .before .before .loop in
+    let start = c .before .before .before .before .before .before .before .before .before .before .before .before .before .before .before .before .before .before .before .before .before .before .before .before .before .before .before in
+    let here = ⊎-elim (λ t. passed _ _ _ _ _ _ _ _ _ (loop .inv) _ _ _ _ (t .3 .ensures .1) (t .3 .ensures .0) (search needs) (t .6) (t .7))
+    (λ t. stayed _ _ _ _ _ _ _ _ _ (loop .inv) _ _ (t .0 .left) (t .1) (t .2)) (if1 .came) in
+    search (needs, here .0 .whole, start .pre .0 .0)
 
 returns : tie.Need-returns Inv-loop μ-loop
 returns c =
     let step-at = c .before .before .before .before .before .before .before .step-at in
-    let pass = c .before .before .before .before .before .before .before .before .before .before .before .before .before .before .pass in
-    let loop-test = c .before .before .before .before .before .before .before .before .before .before .before .before .before .before .before .before .before .loop-test in
-    let loop = c .before .before .before .before .before .before .before .before .before .before .before .before .before .before .before .before .before .before .loop in
-    ends _ _ _ _ _ _ _ _ _ _ _ _ _ _ (loop .inv) (loop-test .taken) (pass .ensures .0) (pass .ensures .1) (step-at .ensures .0) (step-at .ensures .1) (search needs)
+    let if1 = c .before .before .before .before .before .before .before .before .before .before .before .before .if1 in
+    let loop-test = c .before .before .before .before .before .before .before .before .before .before .before .before .before .before .before .loop-test in
+    let loop = c .before .before .before .before .before .before .before .before .before .before .before .before .before .before .before .before .loop in
+    let here = ⊎-elim (λ t. passed _ _ _ _ _ _ _ _ _ (loop .inv) _ _ _ _ (t .3 .ensures .1) (t .3 .ensures .0) (search needs) (t .6) (t .7))
+    (λ t. stayed _ _ _ _ _ _ _ _ _ (loop .inv) _ _ (t .0 .left) (t .1) (t .2)) (if1 .came) in
+    ends _ _ _ _ _ _ _ _ _ _ _ _ here (loop-test .taken) (step-at .ensures .0) (step-at .ensures .1) (search (needs, here .0 .whole))
     (sym (c .before .before .move-p .ensures) ∙ c .enum-told .given .1)
 
 add-n : tie.Need-add-n Inv-loop μ-loop
 add-n c =
-    let loop-test = c .before .before .before .before .before .before .before .before .before .before .before .before .before .before .before .before .before .before .loop-test in
-    let start = c .before .before .before .before .before .before .before .before .before .before .before .before .before .before .before .before .before .before .before .before .before .before .before .before .before .before .before .before .before .before in
+    let loop-test = c .before .before .before .before .before .before .before .before .before .before .before .before .before .before .before .before .loop-test in
+    let start = c .before .before .before .before .before .before .before .before .before .before .before .before .before .before .before .before .before .before .before .before .before .before .before .before .before .before .before .before in
     search (needs, loop-test .taken, start .pre .0 .1)
 
 loop-again : tie.Need-loop-again Inv-loop μ-loop
 loop-again c =
     let move-p = c .before .before .before .move-p in
     let step-at = c .before .before .before .before .before .before .before .before .step-at in
-    let pass = c .before .before .before .before .before .before .before .before .before .before .before .before .before .before .before .pass in
-    let loop-test = c .before .before .before .before .before .before .before .before .before .before .before .before .before .before .before .before .before .before .loop-test in
-    let loop = c .before .before .before .before .before .before .before .before .before .before .before .before .before .before .before .before .before .before .before .loop in
-    goes-on _ _ _ _ _ _ _ _ _ _ _ _ _ _ (loop .inv) (loop-test .taken) (pass .ensures .0) (pass .ensures .1) (step-at .ensures .0) (step-at .ensures .1) (search needs) _
+    let if1 = c .before .before .before .before .before .before .before .before .before .before .before .before .before .if1 in
+    let loop-test = c .before .before .before .before .before .before .before .before .before .before .before .before .before .before .before .before .loop-test in
+    let loop = c .before .before .before .before .before .before .before .before .before .before .before .before .before .before .before .before .before .loop in
+    let here = ⊎-elim (λ t. passed _ _ _ _ _ _ _ _ _ (loop .inv) _ _ _ _ (t .3 .ensures .1) (t .3 .ensures .0) (search needs) (t .6) (t .7))
+    (λ t. stayed _ _ _ _ _ _ _ _ _ (loop .inv) _ _ (t .0 .left) (t .1) (t .2)) (if1 .came) in
+    goes-on _ _ _ _ _ _ _ _ _ _ _ _ here (loop-test .taken) (step-at .ensures .0) (step-at .ensures .1) (search (needs, here .0 .whole)) _
     (sym (move-p .ensures) ∙ c .before .q .given .1)
 
 returns-2 : tie.Need-returns-2 Inv-loop μ-loop
@@ -77,6 +88,6 @@ returns-2 c = spent _ _ _ _ _ _ _ _ _ (c .before .before .loop .inv) (c .before 
 pub take-spec : {M : Type 1} → statement M
 take-spec =
     tie.close (tie.spec Inv-loop μ-loop reach-at-requires reach-at-requires-2 (λ c. search needs) loop-holds
-    (λ c. search needs) pass-requires step-at-requires (λ c κs. search needs) (λ c. search needs) (λ c. search needs)
-    same-length (λ c. search needs) returns add-n (λ c. search needs) loop-again (λ c. search needs)
-    (λ c. search needs) returns-2)
+    (λ c. search needs) (λ c. search needs) pass-requires step-at-requires (λ c κs. search needs) (λ c. search needs)
+    (λ c. search needs) same-length (λ c. search needs) returns add-n (λ c. search needs) loop-again
+    (λ c. search needs) (λ c. search needs) returns-2)
