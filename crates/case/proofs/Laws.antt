@@ -16,7 +16,7 @@ use Rattle.laws.proofs.Kept.{start-fits}
 use Rattle.text.specs.declared.Sheet.the-variants.{Good, Bad}
 use Rattle.text.specs.Sheet.{sheetOf, memoryOf}
 use Rattle.text.specs.Report.{reportOf, refusedOf}
-use Rattle.case.specs.Case.{reported, answerTo, answerOf}
+use Rattle.case.specs.Case.{answerTo, answerOf}
 
 start-processor : (mem : List ℕ) → startOf mem 0 0 .frame .processor ≡ 0
 unfolding startOf loaded
@@ -27,17 +27,18 @@ module _ (mem : List ℕ) (sized : length mem ≡ 4096) where
   unfolding startCall startRefusal first memoryFits
   start-called st = rw sized
 
-  run-called : (st : State) (steps : ℕ) → stateFits st ≡ true → st .frame .processor ≡ 0 → steps ≤ 1000000
-      → runCall st (sharing mem) steps ≡ runOf steps 0 st (sharing mem)
+  run-called : (st : State) (steps : ℕ) → stateFits st ≡ true → st .frame .processor ≡ 0 → steps ≤ 1000000 → runCall st (sharing mem) steps ≡ runOf steps 0 st (sharing mem)
   unfolding runCall runRefusal first memoryFits
   run-called st steps f p l = rw (sized, le-ltb 1000000 steps l, le-ltb 1 (st .frame .processor) (omega arith), f)
 
-  pub package-run : (n : ℕ) (old st : State) (o : Ended) (steps : ℕ) → started n st ≡ startCall old mem 0 0 → o ≡ runCall st (sharing mem) steps → steps ≤ 1000000
+  -- a start of any processor and a run of what it made
+  pub package-run : (n : ℕ) (st₀ st : State) (o : Ended) (steps : ℕ) → started n st ≡ startCall st₀ mem 0 0 → o ≡ runCall st (sharing mem) steps → steps ≤ 1000000
       → o ≡ runOf steps 0 (startOf mem 0 0) (sharing mem)
-  package-run n old st o steps s r l =
-      let e : st ≡ startOf mem 0 0 = ap (λ (x : Started). x .state) (s ∙ start-called old) in
+  package-run n st₀ st o steps s r l =
+      let e : st ≡ startOf mem 0 0 = ap (λ (x : Started). x .state) (s ∙ start-called st₀) in
       r ∙ rw e (run-called (startOf mem 0 0) steps (start-fits mem 0 0) (start-processor mem) l)
 
+-- what is reported of a good sheet, and of a bad one
 module _ (text : List ℕ) where
   pub good-answer : (steps n : ℕ) (ending : Ending) (st : State) (before after : List ℕ) → sheetOf text ≡ Good steps → before ≡ memoryOf text (zeros 4096)
       → ended ending n st (sharing after) ≡ runOf steps 0 (startOf before 0 0) (sharing before) → reportOf ending n st before after ≡ answerOf text
