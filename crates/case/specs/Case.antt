@@ -1,32 +1,20 @@
 -- The whole answer to a case sheet. Assumes nothing.
-use Prim.Native.Nat.{ℕ}
 use mathlib.Core.List.{List}
-use Rattle.machine.specs.declared.Answer.{Answer}
-use Rattle.machine.specs.declared.Answer.the-variants.{Stepped, NotHeld, MonitorFetch}
-use Rattle.machine.specs.declared.Ending.{Ending}
-use Rattle.machine.specs.declared.Ending.the-variants as ending
-use Rattle.machine.specs.Run.{zeros, startOf, Ended, runOf}
+use Prim.Native.Nat.{ℕ}
+use Rattle.machine.specs.State.{sharing}
+use Rattle.machine.specs.Run.{zeros, startOf, runOf}
 use Rattle.text.specs.declared.Sheet.{Sheet}
 use Rattle.text.specs.declared.Sheet.the-variants.{Good, Bad}
 use Rattle.text.specs.Sheet.{sheetOf, memoryOf}
 use Rattle.text.specs.Report.{reportOf, refusedOf}
 
--- the report of a run that found memory m and ended so
-abbrev pub reported : List ℕ → Ended → List ℕ
-reported m e = reportOf (e .last) (e .steps) (e .state) m (e .mem)
-
--- of a good sheet, which left memory m: processor 0 starts from package 0, and runs
+-- to a sheet that left memory m: of a good one processor 0 starts from package 0 and runs, and the report compares memory with m
 unfoldable pub answerTo : List ℕ → Sheet → List ℕ
-answerTo m (Good steps) = reported m (runOf steps 0 (startOf m 0 0) m)
+answerTo m (Good steps) =
+    let e = runOf steps 0 (startOf m 0 0) (sharing m) in
+    reportOf (e .ending) (e .steps) (e .state) m (e .shared .mem)
 answerTo m (Bad line) = refusedOf line
 
 -- a sheet is read into 4,096 zero words
 unfoldable pub answerOf : List ℕ → List ℕ
 answerOf text = answerTo (memoryOf text (zeros 4096)) (sheetOf text)
-
--- the last answer of a run that ended so, as far as a report tells: a spent budget it says as Stepped. No run here is refused
-abbrev pub lastOf : Ending → Answer
-lastOf ending.Budget = Stepped
-lastOf (ending.NotHeld p) = NotHeld p
-lastOf (ending.MonitorFetch p) = MonitorFetch p
-lastOf (ending.Refused n) = Stepped

@@ -288,7 +288,7 @@ pub fn read(text: &[u8], mem: &mut [u64; 4096]) -> Sheet
     ensures { λ r. ⌜ r ≡ sheetOf (now (text .entry)) ⌝ }
     ensures { λ _. ⌜ now (mem .exit) ≡ memoryOf (now (text .entry)) (now (mem .entry)) ⌝ }
     ensures { λ r. ⌜ sheetNumbers r ≡ sheetNumbers (sheetOf (now (text .entry))) ⌝ }
-    ensures { λ r. ⌜ SheetFits r ⌝ }
+    ensures { λ r. ⌜ SheetFits r × (length (now (mem .exit)) ≡ length (now (mem .entry))) ⌝ }
 {
     match check(text) {
         Checked::Passed { steps, words, at } => {
