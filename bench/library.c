@@ -21,7 +21,8 @@
 /* The steps of one call of a pair run. */
 #define PART 50000
 
-typedef uint64_t State[672];
+typedef uint64_t State[PULXARRID_STATE_WORDS];
+typedef uint64_t Pair[PULXARRID_PAIR_WORDS];
 
 /* The calls of the library. A step or a run gives the steps that it took, assembling or listing what it wrote. */
 
@@ -52,10 +53,10 @@ static uint64_t run(State state, uint64_t *memory, size_t words, uint64_t budget
     return answer[2];
 }
 
-static uint64_t pair_run(State first, State second, uint64_t *memory, size_t words, const uint8_t *schedule, size_t length)
+static uint64_t pair_run(Pair pair, uint64_t *memory, size_t words, const uint8_t *schedule, size_t length)
 {
     uint64_t answer[3];
-    taken(pulxarrid_pair_run(first, second, memory, words, schedule, length, answer));
+    taken(pulxarrid_pair_run(pair, memory, words, schedule, length, answer));
     return answer[2];
 }
 
@@ -107,15 +108,15 @@ static uint64_t calls(uint64_t *memory, size_t words, uint64_t count)
 
 static uint64_t pairs(uint64_t *memory, size_t words, uint64_t turn, uint64_t count)
 {
-    static State first, second;
+    static Pair pair;
     static uint8_t schedule[PART];
     uint64_t steps = 0;
     for (uint64_t n = 0; n < PART; n++)
         schedule[n] = n / turn % 2;
-    start(first, memory, words, 0, 0);
-    start(second, memory, words, 1, 1);
+    start(pair, memory, words, 0, 0);
+    start(pair + PULXARRID_STATE_WORDS, memory, words, 1, 1);
     while (steps < count) {
-        uint64_t took = pair_run(first, second, memory, words, schedule, PART);
+        uint64_t took = pair_run(pair, memory, words, schedule, PART);
         steps += took;
         if (took < PART)
             break;

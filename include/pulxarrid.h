@@ -1,14 +1,15 @@
-/* The integer half of a CRAY X-MP: a start, a step, a run and a pair run; and
- * its assembly language CAL: a text assembled, parcels listed.
+/* The integer half of a CRAY X-MP: a start, a step, a turn, a run and a pair
+ * run; and its assembly language CAL: a text assembled, parcels listed.
  *
  * Link with libexport.a. It calls memcpy and memset, allocates nothing, keeps
  * nothing between calls and may be called from several threads at once, each
- * with its own processors and memory. A pair run takes 24 KB of stack, a run or
- * a step 12 KB, a text assembled or parcels listed at most 6 KB.
+ * with its own processors and memory. A call on processors takes at most 1 KB of
+ * stack, a text assembled or parcels listed at most 6 KB.
  *
- * The caller lends every array. No pointer may be null, not even with a length
- * of 0, and no two arrays of one call may overlap. Whatever numbers they hold,
- * each call has one result; pulxarrid(3) says which.
+ * The caller lends every array, and processors are worked on where they stand.
+ * No pointer may be null, not even with a length of 0, and no two arrays of one
+ * call may overlap. Whatever numbers they hold, each call has one result;
+ * pulxarrid(3) says which.
  */
 #ifndef PULXARRID_H
 #define PULXARRID_H
@@ -24,6 +25,10 @@ extern "C" {
  * array of registers begins at its place; element e of V register i is at
  * PULXARRID_V + 64 * i + e. */
 #define PULXARRID_STATE_WORDS 672
+
+/* The words of two processors, those of the first before those of the second,
+ * which begin at PULXARRID_STATE_WORDS. */
+#define PULXARRID_PAIR_WORDS 1344
 
 enum pulxarrid_place {
     PULXARRID_P = 0,          /* parcel address of the next instruction, 24 bits */
@@ -78,14 +83,15 @@ enum pulxarrid_refusal {
     PULXARRID_NO_ROOM = 18             /* more parcels or bytes than there is room for */
 };
 
-/* The kind of an answer or an ending, and its value. */
+/* The kind of an answer or an ending, and its value. 4 is free for a fifth
+ * answer to come. */
 enum pulxarrid_kind {
     PULXARRID_STEPPED = 0,       /* of a step; value 0 */
     PULXARRID_BUDGET_SPENT = 0,  /* of a run; value 0 */
     PULXARRID_EXCHANGED = 1,     /* value: the flags */
     PULXARRID_NOT_HELD = 2,      /* value: P. The machine does not hold the code there */
     PULXARRID_MONITOR_FETCH = 3, /* value: P. A parcel outside, in monitor mode */
-    PULXARRID_NOTHING = 4        /* of a pair run that took no step; value 0 */
+    PULXARRID_NOTHING = 15       /* of a turn or a pair run that took no step; value 0 */
 };
 
 /* The flags of an exchange. */
@@ -107,6 +113,13 @@ uint64_t pulxarrid_step(uint64_t state[PULXARRID_STATE_WORDS],
                         uint64_t *memory, size_t words,
                         uint64_t answer[2]);
 
+/* Takes steps up to and including the first that does not answer stepped, at
+ * most budget. report: the kind of the last answer, its value, and the number
+ * of steps that stepped or exchanged. */
+uint64_t pulxarrid_turn(uint64_t state[PULXARRID_STATE_WORDS],
+                        uint64_t *memory, size_t words,
+                        uint64_t budget, uint64_t report[3]);
+
 /* Takes steps until budget is spent or one answers not held or monitor fetch.
  * report: the kind of the ending, its value, and the number of steps that
  * stepped or exchanged. */
@@ -118,8 +131,7 @@ uint64_t pulxarrid_run(uint64_t state[PULXARRID_STATE_WORDS],
  * the second, up to and including the first that does not answer stepped.
  * report: the kind of the last answer, its value, and the number of steps that
  * stepped or exchanged. */
-uint64_t pulxarrid_pair_run(uint64_t first[PULXARRID_STATE_WORDS],
-                            uint64_t second[PULXARRID_STATE_WORDS],
+uint64_t pulxarrid_pair_run(uint64_t pair[PULXARRID_PAIR_WORDS],
                             uint64_t *memory, size_t words,
                             const uint8_t *schedule, size_t turns,
                             uint64_t report[3]);

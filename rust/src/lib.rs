@@ -1,10 +1,10 @@
-//! The integer half of a CRAY X-MP: a start, a step, a run and a pair run; and
-//! its assembly language CAL: a text assembled, parcels listed.
+//! The integer half of a CRAY X-MP: a start, a step, a turn, a run and a pair
+//! run; and its assembly language CAL: a text assembled, parcels listed.
 //!
 //! Safe functions over the proved library. What each call gives is stated and
-//! proved there; this file only gives the numbers names. The declarations of
-//! `extern "C"` are checked by nobody: a slice is a pointer and a length, an
-//! array one pointer.
+//! proved there; this file only gives the numbers names, and copies no processor
+//! that a call is made on. The declarations of `extern "C"` are checked by
+//! nobody: a slice is a pointer and a length, an array or a pair one pointer.
 //!
 //! Two numbers are added, and the sum is stored:
 //!
@@ -27,6 +27,12 @@ use std::fmt;
 /// The words of a processor.
 pub const STATE_WORDS: usize = 672;
 
+/// The words of two processors.
+pub const PAIR_WORDS: usize = 2 * STATE_WORDS;
+
+// The library is lent a pair as so many words.
+const _: () = assert!(std::mem::size_of::<Pair>() == PAIR_WORDS * std::mem::size_of::<u64>());
+
 extern "C" {
     fn pulxarrid_start(
         state: &mut [u64; STATE_WORDS],
@@ -41,6 +47,13 @@ extern "C" {
         words: usize,
         answer: &mut [u64; 2],
     ) -> u64;
+    fn pulxarrid_turn(
+        state: &mut [u64; STATE_WORDS],
+        memory: *mut u64,
+        words: usize,
+        budget: u64,
+        report: &mut [u64; 3],
+    ) -> u64;
     fn pulxarrid_run(
         state: &mut [u64; STATE_WORDS],
         memory: *mut u64,
@@ -49,8 +62,7 @@ extern "C" {
         report: &mut [u64; 3],
     ) -> u64;
     fn pulxarrid_pair_run(
-        first: &mut [u64; STATE_WORDS],
-        second: &mut [u64; STATE_WORDS],
+        pair: &mut Pair,
         memory: *mut u64,
         words: usize,
         schedule: *const u8,
@@ -138,6 +150,7 @@ impl Register {
 /// A processor. It may hold any numbers; a call refuses one that is too wide
 /// for its register.
 #[derive(Clone, PartialEq, Eq, Debug)]
+#[repr(transparent)]
 pub struct State {
     words: [u64; STATE_WORDS],
 }
@@ -158,6 +171,16 @@ impl State {
     pub fn set(&mut self, register: Register, number: u64) {
         self.words[register.place()] = number;
     }
+}
+
+/// Two processors. Their words stand one after the other, as the library takes
+/// them: so a pair run copies nothing, and between two of them a step, a turn
+/// or a run may be made of either.
+#[derive(Clone, PartialEq, Eq, Debug)]
+#[repr(C)]
+pub struct Pair {
+    pub first: State,
+    pub second: State,
 }
 
 /// Why a call was refused. It altered nothing.
@@ -215,6 +238,9 @@ pub enum Answer {
     MonitorFetch(u32),
 }
 
+/// The kind of no answer.
+const NOTHING: u64 = 15;
+
 impl Answer {
     fn new(kind: u64, value: u64) -> Option<Answer> {
         match kind {
@@ -222,9 +248,18 @@ impl Answer {
             1 => Some(Answer::Exchanged(value as u16)),
             2 => Some(Answer::NotHeld(value as u32)),
             3 => Some(Answer::MonitorFetch(value as u32)),
-            _ => None,
+            NOTHING => None,
+            _ => unreachable!("there are four answers"),
         }
     }
+}
+
+/// The last answer of a turn, if it took a step, and the steps that stepped or
+/// exchanged.
+#[derive(Clone, Copy, PartialEq, Eq, Debug)]
+pub struct Turned {
+    pub last: Option<Answer>,
+    pub steps: u64,
 }
 
 /// How a run ended.
@@ -281,6 +316,25 @@ pub fn step(state: &mut State, memory: &mut [u64]) -> Result<Answer, Refused> {
     Ok(Answer::new(answer[0], answer[1]).expect("a step answers"))
 }
 
+/// Steps up to and including the first that exchanges or stops, at most
+/// `budget`.
+pub fn turn(state: &mut State, memory: &mut [u64], budget: u64) -> Result<Turned, Refused> {
+    let mut report = [0; 3];
+    let number = unsafe {
+        pulxarrid_turn(
+            &mut state.words,
+            memory.as_mut_ptr(),
+            memory.len(),
+            budget,
+            &mut report,
+        )
+    };
+    Refused::check(number)?;
+    let [kind, value, steps] = report;
+    let last = Answer::new(kind, value);
+    Ok(Turned { last, steps })
+}
+
 /// Steps until the budget is spent or one stops.
 pub fn run(state: &mut State, memory: &mut [u64], budget: u64) -> Result<Ran, Refused> {
     let mut report = [0; 3];
@@ -306,17 +360,11 @@ pub fn run(state: &mut State, memory: &mut [u64], budget: u64) -> Result<Ran, Re
 
 /// A step for each byte of the schedule, 0 for the first processor and 1 for
 /// the second, up to the first that does more than step.
-pub fn pair_run(
-    first: &mut State,
-    second: &mut State,
-    memory: &mut [u64],
-    schedule: &[u8],
-) -> Result<PairRan, Refused> {
+pub fn pair_run(pair: &mut Pair, memory: &mut [u64], schedule: &[u8]) -> Result<PairRan, Refused> {
     let mut report = [0; 3];
     let number = unsafe {
         pulxarrid_pair_run(
-            &mut first.words,
-            &mut second.words,
+            pair,
             memory.as_mut_ptr(),
             memory.len(),
             schedule.as_ptr(),

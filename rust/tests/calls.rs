@@ -1,7 +1,7 @@
 //! Small programs with known answers, every refusal, the largest memory.
 
-use pulxarrid::{pair_run, run, start, step};
-use pulxarrid::{Answer, Ending, PairRan, Ran, Refused, Register, State};
+use pulxarrid::{pair_run, run, start, step, turn};
+use pulxarrid::{Answer, Ending, Pair, PairRan, Ran, Refused, Register, State, Turned};
 use Register::*;
 
 const LEAST: usize = 4_096;
@@ -109,6 +109,32 @@ fn steps_answer_with_each_kind() {
 }
 
 #[test]
+fn turns_end_in_each_way() {
+    let mut memory = sum();
+    let mut state = start(&memory, 0, 0).unwrap();
+    let turned = |last, steps| Ok(Turned { last, steps });
+    let before = (state.clone(), memory.clone());
+    assert_eq!(turn(&mut state, &mut memory, 0), turned(None, 0));
+    assert!(before == (state.clone(), memory.clone()));
+    let three = turn(&mut state, &mut memory, 3);
+    assert_eq!(three, turned(Some(Answer::Stepped), 3));
+    assert_eq!((state.get(A(3)), memory[0x800]), (12, 0));
+    let exchanged = turn(&mut state, &mut memory, 1_000_000);
+    assert_eq!(exchanged, turned(Some(Answer::Exchanged(2)), 2));
+    assert_eq!((state.get(P), memory[0x800]), (0, 12));
+    // 022105 A1 5; 000001, not held
+    memory[0x400] = 0x2445_0001_0000_0000;
+    for steps in [1, 0] {
+        let stopped = turn(&mut state, &mut memory, 7);
+        assert_eq!(stopped, turned(Some(Answer::NotHeld(1)), steps));
+    }
+    state.set(Mm, 1);
+    state.set(P, 0x1000);
+    let stopped = turn(&mut state, &mut memory, 7);
+    assert_eq!(stopped, turned(Some(Answer::MonitorFetch(0x1000)), 0));
+}
+
+#[test]
 fn runs_end_in_each_way() {
     let mut memory = sum();
     let mut state = start(&memory, 0, 0).unwrap();
@@ -134,16 +160,25 @@ fn a_pair_run_follows_its_schedule() {
     memory[0x400] = 0x3048_0C00_0000_0000;
     // 022103 A1 3; 110100 000005 5,0 A1; 000001, not held
     memory[0x420] = 0x2443_9040_0005_0001;
-    let mut x = start(&memory, 1, 0).unwrap();
-    let mut y = start(&memory, 2, 1).unwrap();
+    let mut pair = Pair {
+        first: start(&memory, 1, 0).unwrap(),
+        second: start(&memory, 2, 1).unwrap(),
+    };
     let ran = |last, steps| Ok(PairRan { last, steps });
-    assert_eq!(pair_run(&mut x, &mut y, &mut memory, &[]), ran(None, 0));
-    let four = pair_run(&mut x, &mut y, &mut memory, &[0, 1, 0, 1]);
+    let before = pair.clone();
+    assert_eq!(pair_run(&mut pair, &mut memory, &[]), ran(None, 0));
+    assert_eq!(pair, before);
+    let four = pair_run(&mut pair, &mut memory, &[0, 1, 0, 1]);
     assert_eq!(four, ran(Some(Answer::Stepped), 4));
-    assert_eq!((x.get(A(1)), y.get(A(1)), memory[0x805]), (1, 3, 3));
-    let stopped = pair_run(&mut x, &mut y, &mut memory, &[1, 0]);
+    let counts = (pair.first.get(A(1)), pair.second.get(A(1)));
+    assert_eq!((counts, memory[0x805]), ((1, 3), 3));
+    let stopped = pair_run(&mut pair, &mut memory, &[1, 0]);
     assert_eq!(stopped, ran(Some(Answer::NotHeld(3)), 0));
-    assert_eq!(x.get(A(1)), 1);
+    assert_eq!(pair.first.get(A(1)), 1);
+    // a step of one of the two
+    let stepped = step(&mut pair.first, &mut memory);
+    assert_eq!((stepped, pair.first.get(A(1))), (Ok(Answer::Stepped), 2));
+    assert_eq!(pair.second.get(P), 3);
 }
 
 #[test]
@@ -162,11 +197,14 @@ fn each_refusal_alters_nothing() {
         }
         let ran = run(&mut s, &mut m, budget).err();
         assert!(ran.is_some() && s == *state && m == memory[..words]);
+        let turned = turn(&mut s, &mut m, budget).err();
+        assert!(turned == ran && s == *state && m == memory[..words]);
         (stepped, ran.unwrap())
     };
     let same = |refused| (Some(refused), refused);
     assert_eq!(steps(&x, LEAST - 1, 1_000_001), same(Refused::Memory));
     assert_eq!(steps(&x, 0, 1), same(Refused::Memory));
+    assert_eq!(steps(&x, 0, 0), same(Refused::Memory));
     assert_eq!(steps(&x, LEAST, 1_000_001), (None, Refused::Budget));
     let with = |register, number| {
         let mut state = x.clone();
@@ -190,14 +228,20 @@ fn each_refusal_alters_nothing() {
         with(B(63), 1 << 24),
     ];
     let pairs = |x: &State, y: &State, words: usize, schedule: &[u8]| {
-        let (mut s, mut u, mut m) = (x.clone(), y.clone(), memory[..words].to_vec());
-        let refused = pair_run(&mut s, &mut u, &mut m, schedule).unwrap_err();
-        assert!(s == *x && u == *y && m == memory[..words]);
+        let (first, second) = (x.clone(), y.clone());
+        let before = Pair { first, second };
+        let (mut pair, mut m) = (before.clone(), memory[..words].to_vec());
+        let refused = pair_run(&mut pair, &mut m, schedule).unwrap_err();
+        assert!(pair == before && m == memory[..words]);
         refused
     };
     for state in &wide {
         assert_eq!(steps(state, LEAST, 1), same(Refused::State));
+        assert_eq!(steps(state, LEAST, 0), same(Refused::State));
         assert_eq!(pairs(state, &y, LEAST, &[1]), Refused::State);
+        let mut second = state.clone();
+        second.set(Processor, 1);
+        assert_eq!(pairs(&x, &second, LEAST, &[0]), Refused::State);
     }
     assert_eq!(pairs(&x, &y, LEAST - 1, &[2]), Refused::Memory);
     assert_eq!(pairs(&y, &x, LEAST, &[0]), Refused::Processor);
@@ -222,6 +266,8 @@ fn the_largest_memory_is_lent_whole() {
     let ran = run(&mut state, &mut memory[..MOST], 10).unwrap();
     assert_eq!((ran.ending, ran.steps), (Ending::NotHeld(3), 2));
     assert_eq!(memory[top + 31], 5);
+    let refused = turn(&mut state, &mut memory, 10);
+    assert_eq!(refused, Err(Refused::Memory));
     let refused = run(&mut state, &mut memory, 10);
     assert_eq!(refused, Err(Refused::Memory));
     assert_eq!(start(&memory, 0, 0), Err(Refused::Memory));

@@ -1,6 +1,6 @@
 //! The library against the independent program, on random states and programs.
 
-use pulxarrid::{Answer, Ending, Refused, Register, State};
+use pulxarrid::{Answer, Ending, Pair, Refused, Register, State};
 use Register::*;
 
 /// Numbers drawn from a seed (splitmix64).
@@ -119,6 +119,15 @@ fn words_of(state: &peer::State) -> State {
     words
 }
 
+/// One processor or two for the library; without a second, it has no number in it.
+fn pair_of(states: &[peer::State]) -> Pair {
+    let empty = || State::from_words([0; pulxarrid::STATE_WORDS]);
+    Pair {
+        first: words_of(&states[0]),
+        second: states.get(1).map_or_else(empty, words_of),
+    }
+}
+
 fn answer_of(answer: peer::Answer) -> Answer {
     match answer {
         peer::Answer::Stepped => Answer::Stepped,
@@ -132,36 +141,68 @@ fn number(refused: Refused) -> u8 {
     refused as u8
 }
 
+/// The independent program has no turns: they are made of its steps.
+fn peers_turn(
+    state: &mut peer::State,
+    memory: &mut [u64],
+    budget: u64,
+) -> Result<(Option<Answer>, u64), u8> {
+    // a turn is refused as a run is, even where it would take no step
+    let none = if budget > 1_000_000 { budget } else { 0 };
+    peer::run(state, memory, none)?;
+    let (mut last, mut steps) = (None, 0);
+    for _ in 0..budget {
+        let answer = answer_of(peer::step(state, memory)?);
+        last = Some(answer);
+        match answer {
+            Answer::Stepped => steps += 1,
+            Answer::Exchanged(_) => return Ok((last, steps + 1)),
+            Answer::NotHeld(_) | Answer::MonitorFetch(_) => break,
+        }
+    }
+    Ok((last, steps))
+}
+
 /// The library's processors and memory beside those of the independent program.
-struct Pair {
-    states: Vec<(State, peer::State)>,
+/// Where that has one processor, the library's second is to stay empty.
+struct Beside {
+    pair: Pair,
+    states: Vec<peer::State>,
     memory: Vec<u64>,
     peers: Vec<u64>,
 }
 
-impl Pair {
-    fn new(memory: Vec<u64>, states: Vec<peer::State>) -> Pair {
-        Pair {
-            states: states.into_iter().map(|s| (words_of(&s), s)).collect(),
+impl Beside {
+    fn new(memory: Vec<u64>, states: Vec<peer::State>) -> Beside {
+        Beside {
+            pair: pair_of(&states),
+            states,
             peers: memory.clone(),
             memory,
         }
     }
 
     fn step(&mut self) -> Result<Answer, u8> {
-        let (state, peers) = &mut self.states[0];
-        let got = pulxarrid::step(state, &mut self.memory).map_err(number);
-        let wanted = peer::step(peers, &mut self.peers).map(answer_of);
+        let got = pulxarrid::step(&mut self.pair.first, &mut self.memory).map_err(number);
+        let wanted = peer::step(&mut self.states[0], &mut self.peers).map(answer_of);
         assert_eq!(got, wanted);
         self.same();
         got
     }
 
+    fn turn(&mut self, budget: u64) -> Result<Option<Answer>, u8> {
+        let got = pulxarrid::turn(&mut self.pair.first, &mut self.memory, budget);
+        let got = got.map(|r| (r.last, r.steps)).map_err(number);
+        let wanted = peers_turn(&mut self.states[0], &mut self.peers, budget);
+        assert_eq!(got, wanted);
+        self.same();
+        got.map(|r| r.0)
+    }
+
     fn run(&mut self, budget: u64) -> Result<Ending, u8> {
-        let (state, peers) = &mut self.states[0];
-        let got = pulxarrid::run(state, &mut self.memory, budget);
+        let got = pulxarrid::run(&mut self.pair.first, &mut self.memory, budget);
         let got = got.map(|r| (r.ending, r.steps)).map_err(number);
-        let wanted = peer::run(peers, &mut self.peers, budget).map(|ended| {
+        let wanted = peer::run(&mut self.states[0], &mut self.peers, budget).map(|ended| {
             let ending = match ended.stop {
                 peer::Stop::Budget => Ending::Budget,
                 peer::Stop::NotHeld(p) => Ending::NotHeld(p),
@@ -175,12 +216,12 @@ impl Pair {
     }
 
     fn pair_run(&mut self, schedule: &[u8]) -> Result<Option<Answer>, u8> {
-        let [(x, peer_x), (y, peer_y)] = &mut self.states[..] else {
+        let [x, y] = &mut self.states[..] else {
             panic!("a pair is two");
         };
-        let got = pulxarrid::pair_run(x, y, &mut self.memory, schedule);
+        let got = pulxarrid::pair_run(&mut self.pair, &mut self.memory, schedule);
         let got = got.map(|r| (r.last, r.steps)).map_err(number);
-        let wanted = peer::pair_run(peer_x, peer_y, &mut self.peers, schedule);
+        let wanted = peer::pair_run(x, y, &mut self.peers, schedule);
         let wanted = wanted.map(|r| (r.last.map(answer_of), r.steps));
         assert_eq!(got, wanted);
         self.same();
@@ -188,9 +229,7 @@ impl Pair {
     }
 
     fn same(&self) {
-        for (state, peers) in &self.states {
-            assert!(*state == words_of(peers), "the processors differ");
-        }
+        assert!(self.pair == pair_of(&self.states), "the processors differ");
         assert!(self.memory == self.peers, "the memories differ");
     }
 }
@@ -217,7 +256,7 @@ fn any_memory(draw: &mut Draw, words: usize) -> Vec<u64> {
 
 /// A processor, now and then one to be refused, in a memory of `least` words
 /// or some more.
-fn any_case(draw: &mut Draw, least: usize) -> Pair {
+fn any_case(draw: &mut Draw, least: usize) -> Beside {
     let words = least + draw.below(64) as usize;
     let memory = any_memory(draw, words);
     let processor = draw.bits(1);
@@ -225,7 +264,7 @@ fn any_case(draw: &mut Draw, least: usize) -> Pair {
     if draw.below(16) == 0 {
         draw.spoil(&mut state);
     }
-    Pair::new(memory, vec![state])
+    Beside::new(memory, vec![state])
 }
 
 #[test]
@@ -246,16 +285,79 @@ fn steps_from_any_state() {
 }
 
 #[test]
+fn turns_from_any_state() {
+    let mut draw = Draw(6);
+    let mut kinds = [0; 6];
+    for _ in 0..4_000 {
+        let mut beside = any_case(&mut draw, 4_095);
+        let budget = match draw.below(16) {
+            0 => 999_990 + draw.below(20),
+            _ => draw.below(8),
+        };
+        let kind = match beside.turn(budget) {
+            Ok(None) => 0,
+            Ok(Some(Answer::Stepped)) => 1,
+            Ok(Some(Answer::Exchanged(_))) => 2,
+            Ok(Some(Answer::NotHeld(_))) => 3,
+            Ok(Some(Answer::MonitorFetch(_))) => 4,
+            Err(_) => 5,
+        };
+        kinds[kind] += 1;
+    }
+    assert!(kinds.iter().all(|n| *n > 20), "{kinds:?}");
+}
+
+/// Turns of all lengths, each after the other.
+#[test]
+fn random_sheets_in_turns() {
+    let mut draw = Draw(7);
+    for seed in 0..500 {
+        let (memory, _) = sheet("random", seed);
+        let state = start(&memory, 0, 0).unwrap();
+        let mut beside = Beside::new(memory, vec![state]);
+        for _ in 0..20 {
+            beside.turn(draw.below(200)).unwrap();
+        }
+    }
+}
+
+/// A turn of the library is its own steps, one by one.
+#[test]
+fn turns_are_steps() {
+    let mut draw = Draw(8);
+    for seed in 0..500 {
+        let (mut memory, _) = sheet("random", seed);
+        let mut state = pulxarrid::start(&memory, 0, 0).unwrap();
+        for _ in 0..10 {
+            let budget = draw.below(20);
+            let (mut twin, mut twins) = (state.clone(), memory.clone());
+            let (mut last, mut steps) = (None, 0);
+            for _ in 0..budget {
+                let answer = pulxarrid::step(&mut twin, &mut twins).unwrap();
+                steps += u64::from(matches!(answer, Answer::Stepped | Answer::Exchanged(_)));
+                last = Some(answer);
+                if answer != Answer::Stepped {
+                    break;
+                }
+            }
+            let turned = pulxarrid::turn(&mut state, &mut memory, budget).unwrap();
+            assert_eq!((turned.last, turned.steps), (last, steps));
+            assert!(state == twin && memory == twins);
+        }
+    }
+}
+
+#[test]
 fn runs_from_any_state() {
     let mut draw = Draw(2);
     let mut kinds = [0; 4];
     for _ in 0..3_000 {
-        let mut pair = any_case(&mut draw, 4_095);
+        let mut beside = any_case(&mut draw, 4_095);
         let budget = match draw.below(16) {
             0 => 999_990 + draw.below(20),
             _ => draw.below(40),
         };
-        let kind = match pair.run(budget) {
+        let kind = match beside.run(budget) {
             Ok(Ending::Budget) => 0,
             Ok(Ending::NotHeld(_)) => 1,
             Ok(Ending::MonitorFetch(_)) => 2,
@@ -271,8 +373,8 @@ fn random_sheets() {
     for seed in 0..2_000 {
         let (memory, budget) = sheet("random", seed);
         let state = start(&memory, 0, 0).unwrap();
-        let mut pair = Pair::new(memory, vec![state]);
-        pair.run(budget.min(20_000)).unwrap();
+        let mut beside = Beside::new(memory, vec![state]);
+        beside.run(budget.min(20_000)).unwrap();
     }
 }
 
@@ -281,8 +383,8 @@ fn sheets_of_every_code() {
     for seed in (0..131_072).step_by(61) {
         let (memory, budget) = sheet("sweep", seed);
         let state = start(&memory, 0, (seed % 2) as u32).unwrap();
-        let mut pair = Pair::new(memory, vec![state]);
-        pair.run(budget).unwrap();
+        let mut beside = Beside::new(memory, vec![state]);
+        beside.run(budget).unwrap();
     }
 }
 
@@ -325,9 +427,9 @@ fn pair_runs_with_any_schedule() {
             let at = draw.below(schedule.len() as u64) as usize;
             schedule[at] = 2;
         }
-        let mut pair = Pair::new(memory, vec![x, y]);
+        let mut beside = Beside::new(memory, vec![x, y]);
         for _ in 0..2 {
-            let kind = match pair.pair_run(&schedule) {
+            let kind = match beside.pair_run(&schedule) {
                 Ok(None) => 0,
                 Ok(Some(Answer::Stepped)) => 1,
                 Ok(Some(Answer::Exchanged(_))) => 2,
@@ -352,12 +454,11 @@ fn runs_in_the_largest_memory() {
     }
     let x = start(&memory, 0, 0).unwrap();
     let y = start(&memory, 1, 1).unwrap();
-    let mut pair = Pair::new(memory, vec![x, y]);
-    pair.pair_run(&[0, 1, 1, 0, 0, 1]).unwrap();
-    pair.run(100_000).unwrap();
-    pair.states[0] = {
-        let state = draw.state(0);
-        (words_of(&state), state)
-    };
-    pair.run(1_000_000).unwrap();
+    let mut beside = Beside::new(memory, vec![x, y]);
+    beside.pair_run(&[0, 1, 1, 0, 0, 1]).unwrap();
+    beside.turn(1_000).unwrap();
+    beside.run(100_000).unwrap();
+    beside.states[0] = draw.state(0);
+    beside.pair.first = words_of(&beside.states[0]);
+    beside.run(1_000_000).unwrap();
 }

@@ -25,8 +25,12 @@ static int is(uint64_t number, const uint64_t *got, uint64_t kind, uint64_t valu
 }
 
 static uint64_t memory[PULXARRID_MEMORY_LEAST];
-static uint64_t state[PULXARRID_STATE_WORDS];
-static uint64_t other[PULXARRID_STATE_WORDS];
+/* Two processors. A call for one of them is lent the first, so that a write past
+ * its words is seen in the second. */
+static uint64_t pair[PULXARRID_PAIR_WORDS];
+static uint64_t *const state = pair;
+static uint64_t *const other = pair + PULXARRID_STATE_WORDS;
+#define STATE_BYTES (PULXARRID_STATE_WORDS * sizeof(uint64_t))
 static uint64_t answer[2];
 static uint64_t report[3];
 
@@ -60,6 +64,7 @@ static void places(void)
     check(PULXARRID_T - PULXARRID_B == 64, "64 B");
     check(PULXARRID_V - PULXARRID_T == 64, "64 T");
     check(PULXARRID_STATE_WORDS - PULXARRID_V == 8 * 64, "eight V of 64");
+    check(PULXARRID_PAIR_WORDS == 2 * PULXARRID_STATE_WORDS, "a pair is two");
 }
 
 /* Each register of a package goes to its place. */
@@ -97,9 +102,12 @@ static void start(void)
     wanted[PULXARRID_DLA] = 0x1DEF0;
     wanted[PULXARRID_PROCESSOR] = 1;
     memcpy(before, memory, sizeof memory);
-    memset(state, 0xEE, sizeof state);
+    memset(pair, 0xEE, sizeof pair);
     check(pulxarrid_start(state, memory, 4096, 255, 1) == 0, "start");
-    check(memcmp(state, wanted, sizeof state) == 0, "start fills each place");
+    check(memcmp(state, wanted, STATE_BYTES) == 0, "start fills each place");
+    for (n = 0; n < PULXARRID_STATE_WORDS && other[n] == UINT64_C(0xEEEEEEEEEEEEEEEE); n++)
+        ;
+    check(n == PULXARRID_STATE_WORDS, "and none past them");
     check(memcmp(memory, before, sizeof memory) == 0, "start only reads");
 }
 
@@ -131,14 +139,99 @@ static void step(void)
     check(state[PULXARRID_P] == 0x1000, "a stop changes nothing");
 }
 
+/* Numbers drawn from a seed (splitmix64). */
+static uint64_t drawn;
+
+static uint64_t draw(void)
+{
+    uint64_t z = drawn += UINT64_C(0x9E3779B97F4A7C15);
+    z = (z ^ z >> 30) * UINT64_C(0xBF58476D1CE4E5B9);
+    z = (z ^ z >> 27) * UINT64_C(0x94D049BB133111EB);
+    return z ^ z >> 31;
+}
+
+/* Whether a turn does and reports what steps one by one do. */
+static int turn_is_steps(uint64_t budget)
+{
+    static uint64_t twin[PULXARRID_STATE_WORDS], twin_memory[PULXARRID_MEMORY_LEAST];
+    uint64_t kind = PULXARRID_NOTHING, value = 0, steps = 0, n;
+
+    memcpy(twin, state, sizeof twin);
+    memcpy(twin_memory, memory, sizeof memory);
+    for (n = 0; n < budget && (n == 0 || kind == PULXARRID_STEPPED); n++) {
+        if (pulxarrid_step(twin, twin_memory, 4096, answer))
+            return 0;
+        kind = answer[0];
+        value = answer[1];
+        steps += kind == PULXARRID_STEPPED || kind == PULXARRID_EXCHANGED;
+    }
+    return is(pulxarrid_turn(state, memory, 4096, budget, report), report, kind, value) && report[2] == steps
+        && memcmp(twin, state, sizeof twin) == 0 && memcmp(twin_memory, memory, sizeof memory) == 0;
+}
+
+/* The sum again, in turns; then turns of any length from any words. */
+static void turn(void)
+{
+    static uint64_t before[PULXARRID_MEMORY_LEAST], twin[PULXARRID_PAIR_WORDS];
+    unsigned seen[PULXARRID_NOTHING + 1] = {0}, good = 0, n, at;
+
+    put_sum();
+    pulxarrid_start(state, memory, 4096, 0, 0);
+    memcpy(twin, pair, sizeof pair);
+    memcpy(before, memory, sizeof memory);
+    memset(report, 0xAA, sizeof report);
+    check(is(pulxarrid_turn(state, memory, 4096, 0, report), report, PULXARRID_NOTHING, 0) && report[2] == 0,
+          "a turn with no budget");
+    check(memcmp(twin, pair, sizeof pair) == 0 && memcmp(before, memory, sizeof memory) == 0, "alters nothing");
+    check(is(pulxarrid_turn(state, memory, 4096, 3, report), report, PULXARRID_STEPPED, 0) && report[2] == 3,
+          "a turn of three steps");
+    check(state[PULXARRID_A + 3] == 12 && memory[0x800] == 0, "A3 is 12 after three");
+    check(is(pulxarrid_turn(state, memory, 4096, PULXARRID_BUDGET_MOST, report), report, PULXARRID_EXCHANGED, PULXARRID_ERROR_EXIT)
+          && report[2] == 2, "a turn ends with an exchange");
+    check(memory[0x800] == 12 && state[PULXARRID_P] == 0 && state[PULXARRID_A + 3] == 0, "and takes no step after it");
+    memory[0x400] = UINT64_C(0x2445000100000000); /* 022105 A1 5; 000001, not held */
+    check(is(pulxarrid_turn(state, memory, 4096, 100, report), report, PULXARRID_NOT_HELD, 1) && report[2] == 1,
+          "a turn that stops");
+    check(is(pulxarrid_turn(state, memory, 4096, 100, report), report, PULXARRID_NOT_HELD, 1) && report[2] == 0,
+          "a turn that stops at once");
+    state[PULXARRID_MM] = 1;
+    state[PULXARRID_P] = 0x1000;
+    check(is(pulxarrid_turn(state, memory, 4096, 1, report), report, PULXARRID_MONITOR_FETCH, 0x1000) && report[2] == 0,
+          "a turn with a monitor fetch");
+    check(memcmp(twin + PULXARRID_STATE_WORDS, other, STATE_BYTES) == 0, "no turn writes past its processor");
+
+    put_sum();
+    memory[0x401] = UINT64_C(0x00000C0000050000); /* 006000 000005: J 5, at parcel 5 */
+    pulxarrid_start(state, memory, 4096, 0, 0);
+    check(turn_is_steps(4) && turn_is_steps(100000) && report[2] == 100000, "a turn that goes round");
+
+    drawn = 1;
+    for (n = 0; n < 3000; n++) {
+        for (at = 0; at < PULXARRID_MEMORY_LEAST; at++)
+            memory[at] = draw();
+        put_package(memory, 0, 0x400, 0x800, 0x800, 0xC00, 0, draw() % 256);
+        pulxarrid_start(state, memory, 4096, 0, n % 2);
+        state[PULXARRID_MM] = draw() % 2;
+        state[PULXARRID_P] = draw() % 0x1100;
+        for (at = PULXARRID_A; at < PULXARRID_A + 8; at++)
+            state[at] = draw() >> (40 + draw() % 24);
+        good += turn_is_steps(draw() % 8);
+        if (report[0] <= PULXARRID_NOTHING)
+            seen[report[0]]++;
+    }
+    check(good == 3000, "turns are steps one by one");
+    check(seen[PULXARRID_STEPPED] > 20 && seen[PULXARRID_EXCHANGED] > 20 && seen[PULXARRID_NOT_HELD] > 20
+          && seen[PULXARRID_MONITOR_FETCH] > 20 && seen[PULXARRID_NOTHING] > 20, "of every kind");
+}
+
 static void run(void)
 {
     put_sum();
     pulxarrid_start(state, memory, 4096, 0, 0);
-    memcpy(other, state, sizeof state);
+    memcpy(other, state, STATE_BYTES);
     check(is(pulxarrid_run(state, memory, 4096, 0, report), report, PULXARRID_BUDGET_SPENT, 0) && report[2] == 0,
           "a run with no budget");
-    check(memcmp(other, state, sizeof state) == 0, "changes nothing");
+    check(memcmp(other, state, STATE_BYTES) == 0, "changes nothing");
     check(is(pulxarrid_run(state, memory, 4096, 4, report), report, PULXARRID_BUDGET_SPENT, 0) && report[2] == 4,
           "a run of four steps");
     check(memory[0x800] == 12 && state[PULXARRID_P] == 5, "stores the sum");
@@ -156,7 +249,7 @@ static void run(void)
 static void pair_run(void)
 {
     static const uint8_t turns[] = {0, 1, 0, 1, 1, 0};
-    uint64_t x[PULXARRID_STATE_WORDS], y[PULXARRID_STATE_WORDS];
+    uint64_t before[PULXARRID_PAIR_WORDS];
 
     memset(memory, 0, sizeof memory);
     put_package(memory, 1, 0x400, 0x420, 0x800, 0x900, 0, 0);
@@ -165,30 +258,28 @@ static void pair_run(void)
     memory[0x420] = UINT64_C(0x2443904000050001); /* 022103 A1 3; 110100 000005 5,0 A1; 000001, not held */
     check(pulxarrid_start(state, memory, 4096, 1, 0) == 0, "start of the first");
     check(pulxarrid_start(other, memory, 4096, 2, 1) == 0, "start of the second");
-    memcpy(x, state, sizeof x);
-    memcpy(y, other, sizeof y);
-    check(is(pulxarrid_pair_run(state, other, memory, 4096, turns, 0, report), report, PULXARRID_NOTHING, 0)
+    memcpy(before, pair, sizeof pair);
+    check(is(pulxarrid_pair_run(pair, memory, 4096, turns, 0, report), report, PULXARRID_NOTHING, 0)
           && report[2] == 0, "an empty schedule");
-    check(memcmp(state, x, sizeof x) == 0 && memcmp(other, y, sizeof y) == 0, "does nothing");
-    check(is(pulxarrid_pair_run(state, other, memory, 4096, turns, 4, report), report, PULXARRID_STEPPED, 0)
+    check(memcmp(pair, before, sizeof pair) == 0, "does nothing");
+    check(is(pulxarrid_pair_run(pair, memory, 4096, turns, 4, report), report, PULXARRID_STEPPED, 0)
           && report[2] == 4, "four turns");
     check(state[PULXARRID_A + 1] == 1 && state[PULXARRID_P] == 0, "the first counted and jumped");
     check(other[PULXARRID_A + 1] == 3 && other[PULXARRID_P] == 3 && memory[0x805] == 3, "the second stored");
-    check(is(pulxarrid_pair_run(state, other, memory, 4096, turns + 4, 2, report), report, PULXARRID_NOT_HELD, 3)
+    check(is(pulxarrid_pair_run(pair, memory, 4096, turns + 4, 2, report), report, PULXARRID_NOT_HELD, 3)
           && report[2] == 0, "a stop ends a pair run");
     check(state[PULXARRID_A + 1] == 1, "before the next turn");
 }
 
 /* All that a call was lent, as it was before. */
 static struct {
-    uint64_t state[PULXARRID_STATE_WORDS], other[PULXARRID_STATE_WORDS];
+    uint64_t pair[PULXARRID_PAIR_WORDS];
     uint64_t memory[PULXARRID_MEMORY_LEAST], answer[2], report[3];
 } found;
 
 static void remember(void)
 {
-    memcpy(found.state, state, sizeof state);
-    memcpy(found.other, other, sizeof other);
+    memcpy(found.pair, pair, sizeof pair);
     memcpy(found.memory, memory, sizeof memory);
     memcpy(found.answer, answer, sizeof answer);
     memcpy(found.report, report, sizeof report);
@@ -197,9 +288,9 @@ static void remember(void)
 static void refused(uint64_t number, uint64_t wanted, const char *what)
 {
     check(number == wanted, what);
-    check(memcmp(found.state, state, sizeof state) == 0 && memcmp(found.other, other, sizeof other) == 0
-          && memcmp(found.memory, memory, sizeof memory) == 0 && memcmp(found.answer, answer, sizeof answer) == 0
-          && memcmp(found.report, report, sizeof report) == 0, "a refused call alters nothing");
+    check(memcmp(found.pair, pair, sizeof pair) == 0 && memcmp(found.memory, memory, sizeof memory) == 0
+          && memcmp(found.answer, answer, sizeof answer) == 0 && memcmp(found.report, report, sizeof report) == 0,
+          "a refused call alters nothing");
 }
 
 static void good_states(void)
@@ -212,7 +303,8 @@ static void good_states(void)
     remember();
 }
 
-/* Sets a word of the first state, and has each call refuse it. */
+/* Sets a word of the first state, and has each call refuse it; then of the
+ * second, for a pair run. */
 static void bad_word(unsigned place, uint64_t value, uint64_t wanted, const char *what)
 {
     static const uint8_t turns[] = {0, 1};
@@ -220,15 +312,27 @@ static void bad_word(unsigned place, uint64_t value, uint64_t wanted, const char
     state[place] = value;
     remember();
     refused(pulxarrid_step(state, memory, 4096, answer), wanted, what);
+    refused(pulxarrid_turn(state, memory, 4096, 1, report), wanted, what);
+    refused(pulxarrid_turn(state, memory, 4096, 0, report), wanted, what);
     refused(pulxarrid_run(state, memory, 4096, 1, report), wanted, what);
     refused(pulxarrid_run(state, memory, 4096, 0, report), wanted, what);
-    refused(pulxarrid_pair_run(state, other, memory, 4096, turns, 2, report), wanted, what);
-    if (place != PULXARRID_PROCESSOR) {
-        state[PULXARRID_PROCESSOR] = 1;
-        other[PULXARRID_PROCESSOR] = 0;
-        remember();
-        refused(pulxarrid_pair_run(other, state, memory, 4096, turns, 2, report), wanted, what);
-    }
+    refused(pulxarrid_pair_run(pair, memory, 4096, turns, 2, report), wanted, what);
+    refused(pulxarrid_pair_run(pair, memory, 4096, turns, 0, report), wanted, what);
+    good_states();
+    other[place] = value;
+    remember();
+    refused(pulxarrid_pair_run(pair, memory, 4096, turns, 2, report), wanted, what);
+    refused(pulxarrid_pair_run(pair, memory, 4096, turns, 0, report), wanted, what);
+}
+
+/* The second processor first. */
+static void exchange_places(void)
+{
+    uint64_t first[PULXARRID_STATE_WORDS];
+    memcpy(first, state, sizeof first);
+    memcpy(state, other, sizeof first);
+    memcpy(other, first, sizeof first);
+    remember();
 }
 
 static void refusals(void)
@@ -246,24 +350,28 @@ static void refusals(void)
     good_states();
     refused(pulxarrid_start(state, memory, 4095, 0, 0), PULXARRID_BAD_MEMORY, "a start in 4,095 words");
     refused(pulxarrid_step(state, memory, 4095, answer), PULXARRID_BAD_MEMORY, "a step in 4,095 words");
+    refused(pulxarrid_turn(state, memory, 4095, 1, report), PULXARRID_BAD_MEMORY, "a turn in 4,095 words");
     refused(pulxarrid_run(state, memory, 4095, 1, report), PULXARRID_BAD_MEMORY, "a run in 4,095 words");
-    refused(pulxarrid_pair_run(state, other, memory, 4095, turns, 2, report), PULXARRID_BAD_MEMORY,
-            "a pair run in 4,095 words");
+    refused(pulxarrid_pair_run(pair, memory, 4095, turns, 2, report), PULXARRID_BAD_MEMORY, "a pair run in 4,095 words");
+    refused(pulxarrid_turn(state, memory, 0, 0, report), PULXARRID_BAD_MEMORY, "a turn in no words");
     refused(pulxarrid_run(state, memory, 0, 1, report), PULXARRID_BAD_MEMORY, "a run in no words");
     refused(pulxarrid_start(state, memory, 4096, 256, 0), PULXARRID_BAD_PACKAGE, "package 256");
     refused(pulxarrid_start(state, memory, 4096, UINT64_MAX, 2), PULXARRID_BAD_PACKAGE, "a bad package comes before a bad processor");
+    refused(pulxarrid_turn(state, memory, 4096, 1000001, report), PULXARRID_BAD_BUDGET, "a turn with a budget of 1,000,001");
     refused(pulxarrid_run(state, memory, 4096, 1000001, report), PULXARRID_BAD_BUDGET, "a budget of 1,000,001");
     refused(pulxarrid_start(state, memory, 4096, 0, 2), PULXARRID_BAD_PROCESSOR, "a start of processor 2");
-    refused(pulxarrid_pair_run(other, state, memory, 4096, turns, 2, report), PULXARRID_BAD_PROCESSOR, "the two the wrong way round");
-    refused(pulxarrid_pair_run(state, other, memory, 4096, turns, 65537, report), PULXARRID_BAD_SCHEDULE_LENGTH, "65,537 turns");
+    exchange_places();
+    refused(pulxarrid_pair_run(pair, memory, 4096, turns, 2, report), PULXARRID_BAD_PROCESSOR, "the two the wrong way round");
+    exchange_places();
+    refused(pulxarrid_pair_run(pair, memory, 4096, turns, 65537, report), PULXARRID_BAD_SCHEDULE_LENGTH, "65,537 turns");
     turns[1] = 2;
-    refused(pulxarrid_pair_run(state, other, memory, 4096, turns, 2, report), PULXARRID_BAD_SCHEDULE_BYTE, "a turn of 2");
+    refused(pulxarrid_pair_run(pair, memory, 4096, turns, 2, report), PULXARRID_BAD_SCHEDULE_BYTE, "a turn of 2");
     turns[1] = 0;
     bad_word(PULXARRID_PROCESSOR, 2, PULXARRID_BAD_PROCESSOR, "processor 2");
     for (n = 0; n < sizeof wide / sizeof *wide; n++)
         bad_word(wide[n].place, wide[n].value, PULXARRID_BAD_STATE, "a number too wide for its register");
     good_states();
-    check(pulxarrid_pair_run(state, other, memory, 4096, turns, 65536, report) == 0, "65,536 turns");
+    check(pulxarrid_pair_run(pair, memory, 4096, turns, 65536, report) == 0, "65,536 turns");
 }
 
 /* A memory of the most words is lent whole, and one word more is refused. No
@@ -284,7 +392,9 @@ static void largest(void)
     check(is(pulxarrid_run(state, m, words, 10, report), report, PULXARRID_NOT_HELD, 3) && report[2] == 2,
           "a run in the last words that a field reaches");
     check(m[top + 31] == 5 && m[top + 32] == 0 && m[words] == 0x77, "stores there");
+    check(pulxarrid_turn(state, m, words, 10, report) == 0, "a turn in 4,194,304 words");
     check(pulxarrid_run(state, m, words + 1, 10, report) == PULXARRID_BAD_MEMORY, "4,194,305 words are refused");
+    check(pulxarrid_turn(state, m, words + 1, 10, report) == PULXARRID_BAD_MEMORY, "by a turn too");
     check(pulxarrid_start(state, m, words + 1, 0, 0) == PULXARRID_BAD_MEMORY, "by a start too");
     free(m);
 }
@@ -403,6 +513,7 @@ int main(void)
     places();
     start();
     step();
+    turn();
     run();
     pair_run();
     refusals();

@@ -1,5 +1,6 @@
 /* How many bytes of stack a call takes: each is made in a thread whose stack is
- * painted below the caller's frame before, and looked at after. */
+ * painted below the caller's frame before, and looked at after. What counts is
+ * the most over many programs, for an instruction may take more than another. */
 #define _POSIX_C_SOURCE 200809L
 #include "pulxarrid.h"
 
@@ -13,19 +14,24 @@
 /* What the caller's own frame and memset may take. It is left unpainted, and
  * counts as taken. */
 #define SPARE 512
-#define LIMIT (32 * 1024)
+/* The limits of the header: of a call on processors, and of one on CAL. All that
+ * is lent is static, so that none of it counts. */
+#define MACHINE 1024
+#define CAL (6 * 1024)
+#define PROGRAMS 500
 
-static uint64_t memory[4096], first[PULXARRID_STATE_WORDS], second[PULXARRID_STATE_WORDS];
+static uint64_t memory[4096], pair[PULXARRID_PAIR_WORDS];
 static uint64_t answer[2], report[3];
 static const uint8_t schedule[64] = {0, 1, 1, 0, 0, 1};
 static uint16_t parcels[] = {022105, 013777, 0177777, 0147123, 0110300, 0, 020100};
 static uint8_t text[sizeof parcels / sizeof *parcels * PULXARRID_LINE_MOST];
 static uint64_t bytes[1], count[1];
 
-static void start(void) { pulxarrid_start(first, memory, 4096, 0, 0); }
-static void step(void) { pulxarrid_step(first, memory, 4096, answer); }
-static void run(void) { pulxarrid_run(first, memory, 4096, 1000, report); }
-static void pair_run(void) { pulxarrid_pair_run(first, second, memory, 4096, schedule, 64, report); }
+static void start(void) { pulxarrid_start(pair, memory, 4096, 0, 0); }
+static void step(void) { pulxarrid_step(pair, memory, 4096, answer); }
+static void turn(void) { pulxarrid_turn(pair, memory, 4096, 1000, report); }
+static void run(void) { pulxarrid_run(pair, memory, 4096, 1000, report); }
+static void pair_run(void) { pulxarrid_pair_run(pair, memory, 4096, schedule, 64, report); }
 
 static void list(void) { pulxarrid_list(parcels, sizeof parcels / sizeof *parcels, text, sizeof text, bytes); }
 static void assemble(void) { pulxarrid_assemble(text, bytes[0], parcels, sizeof parcels / sizeof *parcels, count); }
@@ -64,37 +70,55 @@ static int measured(void (*call)(void))
     return good;
 }
 
-/* The first example, which ends in an exchange. */
-static void prepare(void)
+/* The first example, which ends in an exchange; after it, any words. */
+static void prepare(unsigned program)
 {
+    uint64_t drawn = program, z; /* splitmix64 */
+    unsigned n;
+
     memset(memory, 0, sizeof memory);
     memory[1] = UINT64_C(0x400000000);
     memory[2] = UINT64_C(0x800000000);
     memory[4] = UINT64_C(0x800000000);
     memory[5] = UINT64_C(0xC00000000);
     memory[0x400] = UINT64_C(0x2445248730CA90C0);
-    pulxarrid_start(first, memory, 4096, 0, 0);
-    pulxarrid_start(second, memory, 4096, 0, 1);
+    for (n = 16; program && n < 4096; n++) {
+        z = drawn += UINT64_C(0x9E3779B97F4A7C15);
+        z = (z ^ z >> 30) * UINT64_C(0xBF58476D1CE4E5B9);
+        z = (z ^ z >> 27) * UINT64_C(0x94D049BB133111EB);
+        memory[n] = z ^ z >> 31;
+    }
+    pulxarrid_start(pair, memory, 4096, 0, 0);
+    pulxarrid_start(pair + PULXARRID_STATE_WORDS, memory, 4096, 0, 1);
 }
 
 int main(void)
 {
-    static const struct { const char *name; void (*call)(void); } calls[] = {
-        {"start", start}, {"step", step}, {"run", run}, {"pair run", pair_run}, {"listing", list}, {"text assembled", assemble}
+    static const struct { const char *name; void (*call)(void); size_t limit; } calls[] = {
+        {"start", start, MACHINE}, {"step", step, MACHINE}, {"turn", turn, MACHINE}, {"run", run, MACHINE},
+        {"pair run", pair_run, MACHINE}, {"listing", list, CAL}, {"text assembled", assemble, CAL}
     };
-    unsigned n;
-    int passed = 0, failed = 0;
+    unsigned n, program;
+    size_t most;
+    int good, passed = 0, failed = 0;
 
     for (n = 0; n < sizeof calls / sizeof *calls; n++) {
-        /* once before, so that the linker has looked up all names */
-        prepare();
-        calls[n].call();
-        prepare();
-        if (measured(calls[n].call) && taken <= LIMIT) {
-            printf("stack of a %s: %zu bytes\n", calls[n].name, taken);
+        good = 1;
+        most = 0;
+        for (program = 0; program < PROGRAMS; program++) {
+            /* once before, so that the linker has looked up all names */
+            prepare(program);
+            calls[n].call();
+            prepare(program);
+            good = good && measured(calls[n].call);
+            if (taken > most)
+                most = taken;
+        }
+        if (good && most <= calls[n].limit) {
+            printf("stack of a %s: %zu bytes\n", calls[n].name, most);
             passed++;
         } else {
-            printf("stack of a %s: %zu bytes, too many or not measured\n", calls[n].name, taken);
+            printf("stack of a %s: %zu bytes, too many or not measured\n", calls[n].name, most);
             failed++;
         }
     }

@@ -1,5 +1,5 @@
--- Places: what stands in a part of a processor's words, and what a store at a place makes of it. Nothing above this crate sees a place but
--- the loops over V registers. Assumes nothing.
+-- Places: what stands in a part of a processor's words, and what a store at a place makes of it, once for each kind of register.
+-- Assumes nothing.
 use Prim.Native.Nat.{ℕ, zero, suc, _+_, _*_, _<_, _≤_}
 use mathlib.Core.Path.{_≡_, refl, sym, _∙_, ap}
 use mathlib.Core.Logic.{_≢_, ⊎-elim}
@@ -84,7 +84,11 @@ module _ (w : List ℕ) (i y : ℕ) where
           part-after 32 64 w (16 + i) y (omega arith),
           part-after 96 64 w (16 + i) y (omega arith),
           part-after 160 512 w (16 + i) y (omega arith),
-          l .0, l .1, l .2, l .3, l .4,
+          l .0,
+          l .1,
+          l .2,
+          l .3,
+          l .4,
         );
       }
 
@@ -100,7 +104,11 @@ module _ (w : List ℕ) (i y : ℕ) where
           part-after 32 64 w (24 + i) y (omega arith),
           part-after 96 64 w (24 + i) y (omega arith),
           part-after 160 512 w (24 + i) y (omega arith),
-          l .0, l .1, l .2, l .3, l .4,
+          l .0,
+          l .1,
+          l .2,
+          l .3,
+          l .4,
         );
       }
 
@@ -116,7 +124,11 @@ module _ (w : List ℕ) (i y : ℕ) where
           part-in 32 64 w i y h,
           part-after 96 64 w (32 + i) y (omega arith),
           part-after 160 512 w (32 + i) y (omega arith),
-          l .0, l .1, l .2, l .3, l .4,
+          l .0,
+          l .1,
+          l .2,
+          l .3,
+          l .4,
         );
       }
 
@@ -132,7 +144,11 @@ module _ (w : List ℕ) (i y : ℕ) where
           part-before 32 64 w (96 + i) (64 + i) y (omega arith) (omega arith),
           part-in 96 64 w i y h,
           part-after 160 512 w (96 + i) y (omega arith),
-          l .0, l .1, l .2, l .3, l .4,
+          l .0,
+          l .1,
+          l .2,
+          l .3,
+          l .4,
         );
       }
 
@@ -147,7 +163,11 @@ module _ (w : List ℕ) (i y : ℕ) where
         part-before 32 64 w (160 + i) (128 + i) y (omega arith) (omega arith),
         part-before 96 64 w (160 + i) (64 + i) y (omega arith) (omega arith),
         part-in 160 512 w i y h,
-        l .0, l .1, l .2, l .3, l .4,
+        l .0,
+        l .1,
+        l .2,
+        l .3,
+        l .4,
       )
 
 -- an element
@@ -222,7 +242,7 @@ pub to-control : (w : List ℕ) (n y : ℕ) → length w ≡ 672 → Control n �
 unfolding apply controlled
 to-control w n y long h =
     let goes : (m : ℕ) → m < 16 → Off m → controlled (registersOf w) m y ≡ apply (toControl m y) (registersOf w) → n ≡ m → Puts w (set w n y) (toControl n y)
-          = λ m l o k e. record { frame = off w n y (rw e o); registers = set-low w n y long (omega arith) ∙ rw e k } in
+    = λ m l o k e. record { frame = off w n y (rw e o); registers = set-low w n y long (omega arith) ∙ rw e k } in
     ⊎-elim (⊎-elim (goes 1 (omega arith) (search needs) refl) (goes 2 (omega arith) (search needs) refl))
     (⊎-elim (goes 3 (omega arith) (search needs) refl)
     (⊎-elim (goes 9 (omega arith) (search needs) refl) (goes 12 (omega arith) (search needs) refl))) h

@@ -90,7 +90,7 @@ unfolding fetchOf fetchIn placeIn
 fetched fr f mem p h l =
     let low : wordOf p % 2 ^ 22 ≡ wordOf p = omega arith in
     let place : placeIn (f .code) (f .span) (wordOf p) ≡ placeOf (codeField fr) (length mem) (wordOf p)
-          = window (codeField fr) (length mem) (wordOf p) (h .iba) (h .size) (f .code) (f .span) (h .code) (h .span) in
+    = window (codeField fr) (length mem) (wordOf p) (h .iba) (h .size) (f .code) (f .span) (h .code) (h .span) in
     rw (← place, low) (go (ltb (wordOf p) (f .span)))
   where
     go : (t : Bool) → pick t (Parcel (parcelOf (getD mem (f .code + wordOf p) 0) p)) Outside ≡ parcelAt mem p (pick t (At (f .code + wordOf p)) Beyond)

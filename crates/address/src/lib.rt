@@ -102,7 +102,11 @@ pub fn difference(r: &mut [u64], x: u64) -> Work
     requires { ⌜ (length (now r) ≡ 672) × (x / 512 ≡ 0o031) ⌝ }
     ensures { λ w. ⌜ Alone w (now (r .entry)) (now (r .exit)) x ⌝ }
 {
-    access::put_a(r, x, word::difference_24(access::a_j(r, x), access::a_k(r, x)))
+    access::put_a(
+        r,
+        x,
+        word::difference_24(access::a_j(r, x), access::a_k(r, x)),
+    )
 }
 
 // 032ijk: Aj times Ak.

@@ -5,3 +5,4 @@ pub mod Pair
 pub mod Example
 pub mod Keeps
 pub mod Runs
+pub mod Words

@@ -1,30 +1,41 @@
 -- What the arm of a code says of the code: computed over the 128 codes. Assumes nothing.
 use Prim.Native.Nat.{ℕ, zero, suc, _+_, _/_, _^_, _<_, _≤_}
 use mathlib.Core.Path.{_≡_, refl, sym, _∙_}
-use mathlib.Core.Bool.{Bool, true, false, _&&_, _||_, not}
+use mathlib.Core.Bool.{Bool, true, false, _||_, not}
+use mathlib.Core.List.{List, [], _∷_}
 use native.Mathlib.Omega.{arith}
 use lib.Dec.{eqb, leb}
-use borrow.Author.Tests.{eqb-true, eq-eqb, le-leb}
-use Rattle.machine.specs.Word.{pick}
+use borrow.Author.Tests.{eqb-true, ne-eqb, le-leb}
+use Rattle.machine.specs.declared.Reach.{Reach}
+use Rattle.machine.specs.declared.Fetched.the-variants.{Parcel, Outside}
+use Rattle.machine.specs.declared.Work.{Work}
+use Rattle.machine.specs.State.{user}
+use Rattle.machine.specs.Memory.{fetchOf}
+use Rattle.machine.specs.Work.{noParcel, presentOf, doneWith, workOf}
+use Rattle.machine.specs.Layout.{frameOf}
+use Rattle.access.specs.Executed.{Executes}
+use Rattle.vector.specs.Element.{Vector}
 use Rattle.access.proofs.Finite.{every, every-at}
 use Rattle.control.specs.Control.{nothingAt}
-use Rattle.dispatch.specs.Table.{armOf, ownArm, highArm}
+use Rattle.dispatch.specs.Table.{Ready, Works, armOf, says, anyOf, highArms, highArm}
 
--- where the arm is k, the code passes a test that every code with that arm passes
-pub arm-test : (Q : ℕ → Bool) (k : ℕ) → every (λ c. pick (eqb (armOf c) k) (Q c) true) 128 ≡ true → (x n : ℕ) → x < 2 ^ 16 → n ≡ armOf (x / 512) → n ≡ k → Q (x / 512) ≡ true
-arm-test Q k all x n l e h = rw (eq-eqb (armOf (x / 512)) k (sym e ∙ h)) at (every-at (λ c. pick (eqb (armOf c) k) (Q c) true) 128 all (x / 512) (omega arith))
-
--- a code with an arm of its own
-own-all : every (λ c. pick (ownArm (armOf c)) (eqb (armOf c) c) true) 128 ≡ true
+-- what the arm says of the code, of every code
+says-all : every (λ c. says (armOf c) c) 128 ≡ true
 unfolding every armOf
-own-all = refl
+says-all = refl
 
-pub own : (x n k : ℕ) → x < 2 ^ 16 → n ≡ armOf (x / 512) → n ≡ k → ownArm k ≡ true → x / 512 ≡ k
-own x n k l e h o =
-    let same : armOf (x / 512) ≡ k = sym e ∙ h in
-    let t : eqb k (x / 512) ≡ true
-          = rw (same, o) at (every-at (λ c. pick (ownArm (armOf c)) (eqb (armOf c) c) true) 128 own-all (x / 512) (omega arith)) in
-    sym (eqb-true k (x / 512) t)
+module _ (x n k : ℕ) (l : x < 2 ^ 16) (e : n ≡ armOf (x / 512)) (h : n ≡ k) where
+  pub arm-says : says k (x / 512) ≡ true
+  arm-says =
+      let same : armOf (x / 512) ≡ k = sym e ∙ h in
+      rw same at (every-at (λ c. says (armOf c) c) 128 says-all (x / 512) (omega arith))
+
+  -- an arm of the code's own, and one of eight codes
+  pub own : ((c : ℕ) → says k c ≡ eqb c k) → x / 512 ≡ k
+  own s = eqb-true (x / 512) k (sym (s (x / 512)) ∙ arm-says)
+
+  pub group : ((c : ℕ) → says k c ≡ eqb (c / 8) (k / 8)) → x / 512 / 8 ≡ k / 8
+  group s = eqb-true (x / 512 / 8) (k / 8) (sym (s (x / 512)) ∙ arm-says)
 
 -- no code has an arm that names no instruction, but 000
 gap-all : every (λ c. not (nothingAt (armOf c)) || eqb (armOf c) 0) 128 ≡ true
@@ -65,3 +76,50 @@ none-in B n lo (suc k) r l =
 pub none-before : (B : Type 0) (n lo k : ℕ) → NoneIn B n lo k → B
 none-before B n lo zero r = r
 none-before B n lo (suc k) r = none-before B n lo k (r .0)
+
+-- what is left of the table after 020 to 037, where 033 is no arm, and after 060 to 077, where 062 to 070 and 072 are none
+pub past-020 : (x n : ℕ) → x < 2 ^ 16 → n ≡ armOf (x / 512) → 0o020 ≤ n → NoneIn (NoneIn (Unit {0}) n 0o020 11) n 0o034 4 → 0o040 ≤ n
+past-020 x n l e h r =
+    let a : 27 ≤ n = none-in (Unit {0}) n 0o020 11 (none-before (NoneIn (Unit {0}) n 0o020 11) n 0o034 4 r) h in
+    let g : n ≡ 27 → ⊥ = gap x n 27 l e refl in
+    none-in (NoneIn (Unit {0}) n 0o020 11) n 0o034 4 r (omega arith)
+
+pub past-060 : (x n : ℕ) → x < 2 ^ 16 → n ≡ armOf (x / 512) → 0o060 ≤ n
+    → NoneIn (NoneIn (NoneIn (Unit {0}) n 0o060 2) n 0o071 1) n 0o073 5 → highArm n ≡ true
+past-060 x n l e h r =
+    let b = none-before (NoneIn (NoneIn (Unit {0}) n 0o060 2) n 0o071 1) n 0o073 5 r in
+    let c : 50 ≤ n = none-in (Unit {0}) n 0o060 2 (none-before (NoneIn (Unit {0}) n 0o060 2) n 0o071 1 b) h in
+    let g : (k : ℕ) → (not (nothingAt k) || eqb k 0) ≡ false → n ≡ k → ⊥ = λ k q. gap x n k l e q in
+    let d : 57 ≤ n = none-in (Unit {0}) n 50 7 (((((((tt, g 50 refl), g 51 refl), g 52 refl), g 53 refl), g 54 refl), g 55 refl), g 56 refl) c in
+    let f : 58 ≤ n = none-in (NoneIn (Unit {0}) n 0o060 2) n 0o071 1 b d in
+    let i : 59 ≤ n = none-in (Unit {0}) n 58 1 (tt, g 58 refl) f in
+    high x n l e (none-in (NoneIn (NoneIn (Unit {0}) n 0o060 2) n 0o071 1) n 0o073 5 r i)
+
+-- what the vector instructions ask
+pub vector-of : (r : List ℕ) (f : Reach) (len : ℕ) → Ready r f len → Vector r
+vector-of r f len h = record { long = h .long; least = h .control .least; most = h .control .most }
+
+-- the last arm of the last match is none
+abbrev NoneOf : ℕ → List ℕ → Type 0
+NoneOf n [] = Unit {0}
+NoneOf n (k ∷ l) = NoneOf n l × (n ≡ k → ⊥)
+
+or-left : (a : Bool) → (a || false) ≡ true → a ≡ true
+or-left true e = refl
+or-left false e = e
+
+none-of : (n : ℕ) (l : List ℕ) → NoneOf n l → anyOf n l ≡ true → ⊥
+none-of n [] h e = let z : _≡_ {A = ℕ} 0 1 = cc in omega arith
+none-of n (k ∷ l) h e = none-of n l (h .0) (or-left (anyOf n l) (rw (ne-eqb n k (h .1)) at e))
+
+pub no-arm : (n : ℕ) → highArm n ≡ true → NoneOf n highArms → ⊥
+no-arm n e h = none-of n highArms h e
+
+-- the work of a step: no parcel, or the instruction that was executed
+pub works-lost : (w : Work) (r mem : List ℕ) (p : ℕ) → fetchOf (frameOf r) mem p ≡ Outside → w ≡ noParcel (user (frameOf r)) → Works w r r mem mem p
+unfolding workOf presentOf doneWith
+works-lost w r mem p e h = record { frame = refl; done = rw (e, h) }
+
+pub works-done : (w : Work) (r r′ mem mem′ : List ℕ) (p x : ℕ) → fetchOf (frameOf r) mem p ≡ Parcel x → Executes w r r′ mem mem′ p x → Works w r r′ mem mem′ p
+unfolding workOf presentOf
+works-done w r r′ mem mem′ p x e h = record { frame = h .frame; done = rw e (h .done) }

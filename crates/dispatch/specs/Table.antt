@@ -1,8 +1,8 @@
 -- What every instruction may rely on, and the table of codes. Assumes nothing.
 use Prim.Native.Nat.{ℕ, _*_, _/_, _<_}
 use mathlib.Core.Path.{_≡_}
-use mathlib.Core.Bool.{Bool, _&&_, _||_, not}
-use mathlib.Core.List.{List}
+use mathlib.Core.Bool.{Bool, false, _&&_, _||_}
+use mathlib.Core.List.{List, [], _∷_}
 use lib.ListN.{length}
 use lib.Dec.{eqb, leb}
 use Rattle.machine.specs.declared.Reach.{Reach}
@@ -14,6 +14,7 @@ use Rattle.machine.specs.Layout.{registersOf, frameOf}
 use Rattle.access.specs.Window.{Reaches}
 use Rattle.access.specs.Executed.{FrameOk, ControlOk}
 use Rattle.control.specs.Control.{nothingAt}
+use Rattle.vector.specs.Element.{plain, other}
 
 -- r is a processor's words, their numbers fit, and f is what it reaches in a memory of len words
 pub record Ready (r : List ℕ) (f : Reach) (len : ℕ) : Type 0 where
@@ -42,12 +43,22 @@ armOf c =
     (pick (within 0o154 0o157 c) 0o154
     (pick (eqb c 0o175) 0o174 c)))))
 
--- the codes that have an arm of their own
-abbrev pub ownArm : ℕ → Bool
-ownArm c = (leb c 0o077 && not (nothingAt c)) || eqb c 0o146 || eqb c 0o147 || eqb c 0o176 || eqb c 0o177
+-- what an arm n says of a code c that has it
+abbrev pub says : ℕ → ℕ → Bool
+says n c =
+    pick (eqb n 0) (nothingAt c)
+    (pick (within 0o100 0o137 n) (eqb (c / 8) (n / 8))
+    (pick (eqb n 0o140 || eqb n 0o154) (plain c)
+    (pick (eqb n 0o150 || eqb n 0o174) (other c) (eqb c n))))
 
--- the arms from 100 on
+-- n is one of a list
+abbrev pub anyOf : ℕ → List ℕ → Bool
+anyOf n [] = false
+anyOf n (k ∷ l) = anyOf n l || eqb n k
+
+-- the arms from 100 on, the last first
+abbrev pub highArms : List ℕ
+highArms = 0o177 ∷ 0o176 ∷ 0o174 ∷ 0o154 ∷ 0o150 ∷ 0o147 ∷ 0o146 ∷ 0o140 ∷ 0o130 ∷ 0o120 ∷ 0o110 ∷ 0o100 ∷ []
+
 abbrev pub highArm : ℕ → Bool
-highArm n =
-    eqb n 0o100 || eqb n 0o110 || eqb n 0o120 || eqb n 0o130 || eqb n 0o140 || eqb n 0o146 || eqb n 0o147 || eqb n 0o150 || eqb n 0o154 || eqb n 0o174
-    || eqb n 0o176 || eqb n 0o177
+highArm n = anyOf n highArms

@@ -13,7 +13,7 @@ ghost use Rattle.machine.specs.Work.{ranged};
 ghost use Rattle.machine.specs.Layout.{registersOf, frameOf};
 ghost use Rattle.access.specs.Window.{Reaches};
 ghost use Rattle.access.specs.Executed.{Executes, Alone};
-ghost use Rattle.vector.specs.Element.{plain};
+ghost use Rattle.vector.specs.Element.{plain, Vector};
 ghost use Rattle.dispatch.specs.Table.{Ready, Works, armOf, highArm};
 use control::Test;
 use machine::Fetched;
@@ -165,16 +165,12 @@ fn arm(code: u64) -> u64
 fn held(holds: bool) -> Work
     ensures { λ w. ⌜ w ≡ pick holds PastOne NotHeld ⌝ }
 {
-    if holds {
-        Work::PastOne
-    } else {
-        Work::NotHeld
-    }
+    if holds { Work::PastOne } else { Work::NotHeld }
 }
 
 // 140 to 145 and 154 to 157: all 64 elements, or as many as VL says.
 fn vectors(r: &mut [u64], x: u64) -> Work
-    requires { ⌜ (length (now r) ≡ 672) × (registersOf (now r) .vl ≤ 64) × (plain (x / 512) ≡ true) ⌝ }
+    requires { ⌜ Vector (now r) × (plain (x / 512) ≡ true) ⌝ }
     ensures { λ w. ⌜ Alone w (now (r .entry)) (now (r .exit)) x ⌝ }
 {
     if access::vl(r) == 64 {
@@ -219,7 +215,7 @@ fn store_v(r: &[u64], mem: &mut [u64], f: Reach, x: u64) -> Work
 
 // 146 and 147.
 fn merge(r: &mut [u64], x: u64) -> Work
-    requires { ⌜ (length (now r) ≡ 672) × (registersOf (now r) .vl ≤ 64) × ((x / 512 ≡ 0o146) ⊎ (x / 512 ≡ 0o147)) ⌝ }
+    requires { ⌜ Vector (now r) × ((x / 512 ≡ 0o146) ⊎ (x / 512 ≡ 0o147)) ⌝ }
     ensures { λ w. ⌜ Alone w (now (r .entry)) (now (r .exit)) x ⌝ }
 {
     vector::merge(r, x);

@@ -1,13 +1,16 @@
 // Packages: what an exchange saves and loads. Package x is the sixteen words of memory from 16x on.
 ghost use mathlib.Core.Path.{_≡_};
-ghost use mathlib.Core.List.{List, _++_};
-ghost use Prim.Native.Nat.{ℕ, _+_, _^_, _<_, _≤_};
+ghost use Prim.Native.Nat.{_*_, _^_, _<_, _≤_};
 ghost use lib.ListN.{length, getD};
 ghost use Rattle.machine.specs.declared.Answer.the-variants.{Exchanged};
-ghost use Rattle.machine.specs.Work.{parcel};
-ghost use Rattle.machine.specs.Exchange.{packageOf, save, bits, eight, wordOf, loadedRegisters, loadedFrame, loadedP, loaded};
+ghost use Rattle.machine.specs.Word.{bits};
+ghost use Rattle.machine.specs.State.{sharing};
+ghost use Rattle.machine.specs.Exchange.{packageOf, loaded};
 ghost use Rattle.machine.specs.Step.{out, exchange};
-ghost use Rattle.access.specs.Layout.{registers, frame, FrameOk, KOk};
+ghost use Rattle.machine.specs.Layout.{registersOf, frameOf, stateOf};
+ghost use Rattle.access.specs.Executed.{FrameOk, ControlOk};
+ghost use Rattle.exchange.specs.Words.{loadedBy, lowWords, Narrow};
+use access::A;
 use access::BDM;
 use access::CLN;
 use access::DBA;
@@ -20,98 +23,72 @@ use access::IOR;
 use access::MM;
 use access::PROCESSOR;
 use access::PS;
+use access::S;
 use access::VL;
 use access::VM;
 use access::XA;
 use machine::ParcelAddr;
 
-// The words of package x.
-fn package(mem: &[u64], x: u64) -> [u64; 16]
-    requires { ⌜ (x < 256) × (4096 ≤ length (now mem)) ⌝ }
-    ensures { λ r. ⌜ r ≡ eight (λ n. wordOf (now (mem .entry)) x n) ++ eight (λ n. wordOf (now (mem .entry)) x (8 + n)) ⌝ }
-{
-    let first = x as usize * 16;
-    let mut w = [0u64; 16];
-    for n in 0..16 {
-        w[n] = mem[first + n];
-    }
-    w
-}
-
-// n bits of a word from 2^from on.
-fn field(word: u64, from: u64, n: u64) -> u64
-    requires { ⌜ (from < 64) × (n < 64) ⌝ }
-    ensures { λ r. ⌜ r ≡ bits word from n ⌝ }
-{
-    (word >> from) % (1 << n)
-}
-
 // The sixteen words that a processor is saved as.
-fn saved_words(
-    a: &[u64; 8],
-    s: &[u64; 8],
-    k: &[u64; 5],
-    q: &[u64; 10],
-    p: ParcelAddr,
-    flags: u64,
-) -> [u64; 16]
-    requires { ⌜ FrameOk (frame (now q)) × KOk (now k) × (p .0 < 2 ^ 24) × (flags < 512) ⌝ }
-    ensures { λ r. ⌜ ((b t v : List ℕ) → r ≡ packageOf (frame (now (q .entry))) (registers (now (a .entry)) (now (s .entry)) b t v (now (k .entry))) (p .0) flags) ⌝ }
+fn saved_words(r: &[u64], p: ParcelAddr, flags: u64) -> [u64; 16]
+    requires { ⌜ (length (now r) ≡ 672) × (p .0 < 2 ^ 24) × (flags < 512) ⌝ }
+    requires { ⌜ Narrow (now r) ⌝ }
+    ensures { λ y. ⌜ y ≡ packageOf (frameOf (now (r .entry))) (registersOf (now (r .entry))) (p .0) flags ⌝ }
 {
     [
-        (p.0 << 24) + a[0] % 16777216,
-        (q[IBA] << 29) + a[1] % 16777216,
-        (q[ILA] << 29)
-            + (k[BDM] << 28)
-            + (q[FPS] << 27)
-            + (q[IFP] << 26)
-            + (k[IOR] << 25)
-            + (q[MM] << 24)
-            + a[2] % 16777216,
-        (k[XA] << 40) + (k[VL] << 33) + (flags << 24) + a[3] % 16777216,
-        (q[DBA] << 29) + (q[PS] << 28) + (q[CLN] << 24) + a[4] % 16777216,
-        (q[DLA] << 29) + a[5] % 16777216,
-        a[6] % 16777216,
-        a[7] % 16777216,
-        s[0],
-        s[1],
-        s[2],
-        s[3],
-        s[4],
-        s[5],
-        s[6],
-        s[7],
+        (p.0 << 24) + r[A] % 16777216,
+        (r[IBA] << 29) + r[A + 1] % 16777216,
+        (r[ILA] << 29)
+            + (r[BDM] << 28)
+            + (r[FPS] << 27)
+            + (r[IFP] << 26)
+            + (r[IOR] << 25)
+            + (r[MM] << 24)
+            + r[A + 2] % 16777216,
+        (r[XA] << 40) + (r[VL] << 33) + (flags << 24) + r[A + 3] % 16777216,
+        (r[DBA] << 29) + (r[PS] << 28) + (r[CLN] << 24) + r[A + 4] % 16777216,
+        (r[DLA] << 29) + r[A + 5] % 16777216,
+        r[A + 6] % 16777216,
+        r[A + 7] % 16777216,
+        r[S],
+        r[S + 1],
+        r[S + 2],
+        r[S + 3],
+        r[S + 4],
+        r[S + 5],
+        r[S + 6],
+        r[S + 7],
     ]
 }
 
-// Saves a processor in package x.
-fn save(
-    a: &[u64; 8],
-    s: &[u64; 8],
-    k: &[u64; 5],
-    q: &[u64; 10],
-    mem: &mut [u64],
-    x: u64,
-    p: ParcelAddr,
-    flags: u64,
-)
-    requires { ⌜ (x < 256) × (4096 ≤ length (now mem)) ⌝ }
-    requires { ⌜ FrameOk (frame (now q)) × KOk (now k) × (p .0 < 2 ^ 24) × (flags < 512) ⌝ }
-    ensures { λ _. ⌜ ((b t v : List ℕ) → now (mem .exit) ≡ save (frame (now (q .entry))) (registers (now (a .entry)) (now (s .entry)) b t v (now (k .entry))) (p .0) flags x (now (mem .entry))) ⌝ }
+// Where the package begins that the XA in these words chooses.
+fn chosen(w: [u64; 16]) -> usize
+    ensures { λ n. ⌜ n ≡ bits (getD w 3 0) 40 8 * 16 ⌝ }
 {
-    let first = x as usize * 16;
-    let w = saved_words(a, s, k, q, p, flags);
-    for n in 0..16 {
-        mem[first + n] = w[n];
-    }
+    ((w[3] >> 40) % 256) as usize * 16
 }
 
-// Loads A, S, XA, VL, IOR and BDM of a package's words; VM stays.
-fn load_registers(a: &mut [u64; 8], s: &mut [u64; 8], k: &mut [u64; 5], w: &[u64; 16])
-    ensures { λ _. ⌜ ((b t v : List ℕ) → registers (now (a .exit)) (now (s .exit)) b t v (now (k .exit)) ≡ loadedRegisters (λ n. getD (now (w .entry)) n 0) (registers (now (a .entry)) (now (s .entry)) b t v (now (k .entry)))) ⌝ }
-    ensures { λ _. ⌜ KOk (now (k .exit)) ⌝ }
+// The first 32 words of a processor that a package's words load, by their places.
+fn low_words(w: [u64; 16], vm: u64, number: u64) -> [u64; 32]
+    ensures { λ y. ⌜ y ≡ lowWords (λ n. getD w n 0) vm number ⌝ }
 {
-    *a = [
+    [
+        (w[0] >> 24) % 16777216,
+        (w[3] >> 40) % 256,
+        word::vector_length((w[3] >> 33) % 128),
+        vm,
+        (w[1] >> 29) % 131072,
+        (w[2] >> 29) % 131072,
+        (w[4] >> 29) % 131072,
+        (w[5] >> 29) % 131072,
+        (w[2] >> 24) % 2,
+        (w[2] >> 25) % 2,
+        (w[2] >> 26) % 2,
+        (w[2] >> 27) % 2,
+        (w[2] >> 28) % 2,
+        (w[4] >> 28) % 2,
+        (w[4] >> 24) % 4,
+        number,
         w[0] % 16777216,
         w[1] % 16777216,
         w[2] % 16777216,
@@ -120,88 +97,44 @@ fn load_registers(a: &mut [u64; 8], s: &mut [u64; 8], k: &mut [u64; 5], w: &[u64
         w[5] % 16777216,
         w[6] % 16777216,
         w[7] % 16777216,
-    ];
-    *s = [w[8], w[9], w[10], w[11], w[12], w[13], w[14], w[15]];
-    *k = [
-        field(w[3], 40, 8),
-        word::vector_length(field(w[3], 33, 7)),
-        k[VM],
-        field(w[2], 25, 1),
-        field(w[2], 28, 1),
-    ];
+        w[8],
+        w[9],
+        w[10],
+        w[11],
+        w[12],
+        w[13],
+        w[14],
+        w[15],
+    ]
 }
 
-// Loads what only an exchange changes; the processor's number stays.
-fn load_frame(q: &mut [u64; 10], w: &[u64; 16])
-    requires { ⌜ getD (now q) 9 0 < 2 ⌝ }
-    ensures { λ _. ⌜ frame (now (q .exit)) ≡ loadedFrame (λ n. getD (now (w .entry)) n 0) (frame (now (q .entry))) ⌝ }
-    ensures { λ _. ⌜ FrameOk (frame (now (q .exit))) ⌝ }
+// Loads a package's words; B, T, V, VM and the processor's number stay.
+fn load(r: &mut [u64], w: [u64; 16])
+    requires { ⌜ length (now r) ≡ 672 ⌝ }
+    ensures { λ _. ⌜ stateOf (now (r .exit)) ≡ loadedBy (λ n. getD w n 0) (registersOf (now (r .entry))) (frameOf (now (r .entry))) ⌝ }
 {
-    *q = [
-        field(w[1], 29, 17),
-        field(w[2], 29, 17),
-        field(w[4], 29, 17),
-        field(w[5], 29, 17),
-        field(w[2], 24, 1),
-        field(w[2], 26, 1),
-        field(w[2], 27, 1),
-        field(w[4], 28, 1),
-        field(w[4], 24, 2),
-        q[PROCESSOR],
-    ];
+    let new = low_words(w, r[VM], r[PROCESSOR]);
+    for n in 0..32 {
+        r[n] = new[n];
+    }
 }
 
-// Loads a package's words. The result is P.
-fn load(
-    a: &mut [u64; 8],
-    s: &mut [u64; 8],
-    k: &mut [u64; 5],
-    q: &mut [u64; 10],
-    w: &[u64; 16],
-) -> ParcelAddr
-    requires { ⌜ getD (now q) 9 0 < 2 ⌝ }
-    ensures { λ r. ⌜ ((b t v : List ℕ) → registers (now (a .exit)) (now (s .exit)) b t v (now (k .exit)) ≡ loadedRegisters (λ n. getD (now (w .entry)) n 0) (registers (now (a .entry)) (now (s .entry)) b t v (now (k .entry)))) × (frame (now (q .exit)) ≡ loadedFrame (λ n. getD (now (w .entry)) n 0) (frame (now (q .entry)))) × (r ≡ parcel (loadedP (λ n. getD (now (w .entry)) n 0))) ⌝ }
-    ensures { λ r. ⌜ KOk (now (k .exit)) × FrameOk (frame (now (q .exit))) × (r .0 < 2 ^ 24) ⌝ }
+// For a start: loads a package.
+pub fn load_package(r: &mut [u64], mem: &[u64], package: u64)
+    requires { ⌜ (length (now r) ≡ 672) × («package» < 256) × (4096 ≤ length (now mem)) ⌝ }
+    ensures { λ _. ⌜ stateOf (now (r .exit)) ≡ loaded (now (mem .entry)) «package» (registersOf (now (r .entry))) (frameOf (now (r .entry))) ⌝ }
 {
-    load_registers(a, s, k, w);
-    load_frame(q, w);
-    ParcelAddr(field(w[0], 24, 24))
+    load(r, access::words::sixteen(mem, package as usize * 16, false));
 }
 
-// For a start: loads package x. The result is P.
-pub fn load_package(
-    a: &mut [u64; 8],
-    s: &mut [u64; 8],
-    k: &mut [u64; 5],
-    q: &mut [u64; 10],
-    mem: &[u64],
-    x: u64,
-) -> ParcelAddr
-    requires { ⌜ (x < 256) × (4096 ≤ length (now mem)) × (getD (now q) 9 0 < 2) ⌝ }
-    ensures { λ r. ⌜ ((b t v : List ℕ) → record { p = r; registers = registers (now (a .exit)) (now (s .exit)) b t v (now (k .exit)); frame = frame (now (q .exit)) } ≡ loaded (now (mem .entry)) x (registers (now (a .entry)) (now (s .entry)) b t v (now (k .entry))) (frame (now (q .entry)))) ⌝ }
-    ensures { λ r. ⌜ KOk (now (k .exit)) × FrameOk (frame (now (q .exit))) × (r .0 < 2 ^ 24) ⌝ }
+// The exchange: the old XA chooses the package, which is loaded as it stood, and the old state is saved there, P being p.
+pub fn swap(r: &mut [u64], mem: &mut [u64], p: ParcelAddr, flags: u64)
+    requires { ⌜ (length (now r) ≡ 672) × (4096 ≤ length (now mem)) × (p .0 < 2 ^ 24) × (flags < 512) ⌝ }
+    requires { ⌜ FrameOk (frameOf (now r)) × ControlOk (registersOf (now r)) ⌝ }
+    ensures { λ _. ⌜ out (Exchanged flags) (stateOf (now (r .exit))) (sharing (now (mem .exit))) ≡ exchange (frameOf (now (r .entry))) (registersOf (now (r .entry))) (p .0) flags (sharing (now (mem .entry))) ⌝ }
 {
-    let w = package(mem, x);
-    load(a, s, k, q, &w)
-}
-
-// The exchange: the old XA chooses the package, which is loaded as it stood, and the old state is saved there. The result is the new P.
-pub fn swap(
-    a: &mut [u64; 8],
-    s: &mut [u64; 8],
-    k: &mut [u64; 5],
-    q: &mut [u64; 10],
-    mem: &mut [u64],
-    p: ParcelAddr,
-    flags: u64,
-) -> ParcelAddr
-    requires { ⌜ 4096 ≤ length (now mem) ⌝ }
-    requires { ⌜ FrameOk (frame (now q)) × KOk (now k) × (p .0 < 2 ^ 24) × (flags < 512) ⌝ }
-    ensures { λ r. ⌜ ((b t v : List ℕ) → out (Exchanged flags) (record { p = r; registers = registers (now (a .exit)) (now (s .exit)) b t v (now (k .exit)); frame = frame (now (q .exit)) }) (now (mem .exit)) ≡ exchange (frame (now (q .entry))) (registers (now (a .entry)) (now (s .entry)) b t v (now (k .entry))) p flags (now (mem .entry))) ⌝ }
-    ensures { λ r. ⌜ KOk (now (k .exit)) × FrameOk (frame (now (q .exit))) × (r .0 < 2 ^ 24) ⌝ }
-{
-    let x = k[XA];
-    let w = package(mem, x);
-    save(a, s, k, q, mem, x, p, flags);
-    load(a, s, k, q, &w)
+    let old = saved_words(r, p, flags);
+    let new = access::words::sixteen(mem, chosen(old), false);
+    access::words::put_sixteen(mem, chosen(old), old);
+    load(r, new);
 }

@@ -32,7 +32,7 @@ assembled-kept text room = read (readOf text)
     read (Wrong n) = refl
 
 pub assemble-leaves : (text room report made : List ℕ) (o : Assembled) → o ≡ assembled text room → made ≡ roomAssembled text room
-    → left (refused (assembledNumbers o)) (made ∷ reported report (assembledNumbers o) ∷ []) ≡ afterAssemble text room report
+    → left (refused (assembledNumbers o)) [] (made ∷ reported report (assembledNumbers o) ∷ []) ≡ afterAssemble text room report
 assemble-leaves text room report made o e m = rw (e, m, assembled-kept text room) refl
 
 listed-kept : (parcels room : List ℕ) → kept (listedNumbers (listed parcels room)) (roomListed parcels room) room ≡ roomListed parcels room
@@ -44,5 +44,5 @@ listed-kept parcels room = fits (listOf parcels) (leb (length (listOf parcels)) 
     fits bs false = refl
 
 pub list-leaves : (parcels room report made : List ℕ) (o : Listed) → o ≡ listed parcels room → made ≡ roomListed parcels room
-    → left (refused (listedNumbers o)) (made ∷ reported report (listedNumbers o) ∷ []) ≡ afterList parcels room report
+    → left (refused (listedNumbers o)) [] (made ∷ reported report (listedNumbers o) ∷ []) ≡ afterList parcels room report
 list-leaves parcels room report made o e m = rw (e, m, listed-kept parcels room) refl

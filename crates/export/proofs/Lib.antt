@@ -1,4 +1,2 @@
-pub mod Laws
 pub mod Left
 pub mod Cal
-pub mod Places

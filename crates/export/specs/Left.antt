@@ -1,31 +1,29 @@
--- What a call leaves to its caller: the number of its refusal, 0 for none, and the lists that it was lent. Refused, it alters none. Assumes nothing.
+-- What a call leaves to its caller: the number of its refusal, 0 for none, the processors and the lists that it was lent. Assumes nothing.
 use Prim.Native.Nat.{ℕ}
 use mathlib.Core.List.{List, [], _∷_}
 use lib.ListN.{getD}
 use lib.Dec.{eqb}
 use Rattle.machine.specs.Word.{pick}
-use Rattle.machine.specs.Call.{StartCalled, Called, RunCalled, PairCalled, saidNumbers, endingNumbers, lastNumbers}
+use Rattle.machine.specs.State.{State}
+use Rattle.machine.specs.Run.{Turned, Ended, PairEnded}
+use Rattle.machine.specs.Call.{Started, Replied, replyNumbers, endingNumbers, lastNumbers}
 use Rattle.spelling.specs.Assembling.{assembled, roomAssembled, assembledNumbers}
 use Rattle.spelling.specs.Listing.{listed, roomListed, listedNumbers}
-use Rattle.export.specs.Words.{wordsOf}
 
 pub record Left : Type 0 where
   pub number : ℕ
+  pub processors : List State
   pub lent : List (List ℕ)
 
-abbrev pub left : ℕ → List (List ℕ) → Left
-left n lists = record { number = n; lent = lists }
+abbrev pub left : ℕ → List State → List (List ℕ) → Left
+left n states lists = record { number = n; processors = states; lent = lists }
 
--- what it made or, refused, what it found
-abbrev pub leaves : ℕ → List (List ℕ) → List (List ℕ) → Left
-leaves n found made = left n (pick (eqb n 0) made found)
-
--- of document 01's numbers for an answer: that of a refusal, 0 for none; the kind, 4 for no answer; its value, 0 where it has none
+-- of the numbers of an answer: that of a refusal, 0 for none; the kind, 15 for no answer; its value, 0 where it has none
 abbrev pub refused : List ℕ → ℕ
 refused numbers = getD numbers 0 0
 
 abbrev pub kind : List ℕ → ℕ
-kind numbers = getD numbers 1 4
+kind numbers = getD numbers 1 15
 
 abbrev pub value : List ℕ → ℕ
 value numbers = getD numbers 2 0
@@ -34,29 +32,37 @@ value numbers = getD numbers 2 0
 abbrev pub threeOf : List ℕ → List ℕ
 threeOf numbers = refused numbers ∷ kind numbers ∷ value numbers ∷ []
 
--- a start fills the words
-abbrev pub afterStart : List ℕ → StartCalled → Left
-afterStart words c = leaves (c .refused) (words ∷ []) (wordsOf (c .state) ∷ [])
+-- a report: what was made or, refused, what it was
+abbrev pub unlessRefused : List ℕ → List ℕ → List ℕ → List ℕ
+unlessRefused numbers made found = pick (eqb (refused numbers) 0) made found
+
+-- a start
+abbrev pub afterStart : Started → Left
+afterStart c = left (c .refused) (c .state ∷ []) []
 
 -- a step: the kind and the value of its answer
-abbrev pub afterStep : List ℕ → List ℕ → List ℕ → Called → Left
-afterStep words mem answer c =
-    let n = saidNumbers (c .said) in
-    leaves (refused n) (words ∷ mem ∷ answer ∷ []) (wordsOf (c .state) ∷ c .mem ∷ (kind n ∷ value n ∷ []) ∷ [])
+abbrev pub afterStep : List ℕ → Replied → Left
+afterStep answer c =
+    let n = replyNumbers (c .reply) in
+    left (refused n) (c .state ∷ []) (c .shared .mem ∷ unlessRefused n (kind n ∷ value n ∷ []) answer ∷ [])
 
--- a run: the kind and the value of its ending, and the steps
-abbrev pub afterRun : List ℕ → List ℕ → List ℕ → RunCalled → Left
-afterRun words mem report c =
+-- a turn: the kind and the value of its last answer, and the steps
+abbrev pub afterTurn : List ℕ → Turned → Left
+afterTurn report c =
+    let n = lastNumbers (c .last) in
+    left (refused n) (c .state ∷ []) (c .shared .mem ∷ unlessRefused n (kind n ∷ value n ∷ c .steps ∷ []) report ∷ [])
+
+-- a run: the same of its ending
+abbrev pub afterRun : List ℕ → Ended → Left
+afterRun report c =
     let n = endingNumbers (c .ending) in
-    leaves (refused n) (words ∷ mem ∷ report ∷ []) (wordsOf (c .state) ∷ c .mem ∷ (kind n ∷ value n ∷ c .steps ∷ []) ∷ [])
+    left (refused n) (c .state ∷ []) (c .shared .mem ∷ unlessRefused n (kind n ∷ value n ∷ c .steps ∷ []) report ∷ [])
 
 -- a pair run: the same of its last answer
-abbrev pub afterPair : List ℕ → List ℕ → List ℕ → List ℕ → PairCalled → Left
-afterPair first second mem report c =
+abbrev pub afterPair : List ℕ → PairEnded → Left
+afterPair report c =
     let n = lastNumbers (c .last) in
-    leaves (refused n)
-    (first ∷ second ∷ mem ∷ report ∷ [])
-    (wordsOf (c .first) ∷ wordsOf (c .second) ∷ c .mem ∷ (kind n ∷ value n ∷ c .steps ∷ []) ∷ [])
+    left (refused n) (c .first ∷ c .second ∷ []) (c .shared .mem ∷ unlessRefused n (kind n ∷ value n ∷ c .steps ∷ []) report ∷ [])
 
 -- of an answer's numbers what a report takes: the second; where there is none it stays
 abbrev pub reported : List ℕ → List ℕ → List ℕ
@@ -68,10 +74,10 @@ reported report [] = report
 abbrev pub afterAssemble : List ℕ → List ℕ → List ℕ → Left
 afterAssemble text room report =
     let n = assembledNumbers (assembled text room) in
-    left (refused n) (pick (eqb (refused n) 0) (roomAssembled text room) room ∷ reported report n ∷ [])
+    left (refused n) [] (pick (eqb (refused n) 0) (roomAssembled text room) room ∷ reported report n ∷ [])
 
 -- parcels listed: the same, and the bytes written
 abbrev pub afterList : List ℕ → List ℕ → List ℕ → Left
 afterList parcels room report =
     let n = listedNumbers (listed parcels room) in
-    left (refused n) (pick (eqb (refused n) 0) (roomListed parcels room) room ∷ reported report n ∷ [])
+    left (refused n) [] (pick (eqb (refused n) 0) (roomListed parcels room) room ∷ reported report n ∷ [])

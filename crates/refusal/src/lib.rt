@@ -1,116 +1,87 @@
-// The refusal numbers of document 01, each call checking its own in that order; 0 is none.
+// The refusal numbers, each call checking its own in their order; 0 is none.
 ghost use mathlib.Core.Path.{_≡_};
-ghost use mathlib.Core.List.{List};
-ghost use Prim.Native.Nat.{ℕ};
-ghost use Rattle.machine.specs.Refusal.{below, memoryFits, registersFit, frameFits, stateFits, startRefusal, stepRefusal, runRefusal, pairRefusal};
-use machine::Frame;
-use machine::ParcelAddr;
-use machine::State;
+ghost use lib.ListN.{length};
+ghost use Rattle.machine.specs.Refusal.{memoryFits, stateFits, startRefusal, stepRefusal, runRefusal, pairRefusal};
+ghost use Rattle.machine.specs.Layout.{stateOf, firstOf, secondOf};
+ghost use Rattle.refusal.specs.Joined.{joined};
+use access::A;
+use access::B;
+use access::BDM;
+use access::CLN;
+use access::DBA;
+use access::DLA;
+use access::FPS;
+use access::IBA;
+use access::IFP;
+use access::ILA;
+use access::IOR;
+use access::MM;
+use access::P;
+use access::PROCESSOR;
+use access::PS;
+use access::S;
+use access::T;
+use access::VL;
+use access::WORDS;
+use access::XA;
 
-// Whether each number is below n.
-fn all_below(numbers: &[u64], n: u64) -> bool
-    ensures { λ r. ⌜ r ≡ below n (now (numbers .entry)) ⌝ }
+// The numbers of a list or-ed together, so that one test does for all of them.
+fn joined(numbers: &[u64]) -> u64
+    ensures { λ y. ⌜ y ≡ joined 0 (now (numbers .entry)) ⌝ }
 {
+    let mut all: u64 = 0;
     let mut e: usize = 0;
     while e < numbers.len() {
-        if n <= numbers[e] {
-            return false;
-        }
+        all = all | numbers[e];
         e += 1;
     }
-    true
+    all
 }
 
 // The same of bytes.
-fn bytes_below(bytes: &[u8], n: u8) -> bool
-    ensures { λ r. ⌜ r ≡ below n (now (bytes .entry)) ⌝ }
+fn joined_bytes(bytes: &[u8]) -> u8
+    ensures { λ y. ⌜ y ≡ joined 0 (now (bytes .entry)) ⌝ }
 {
+    let mut all: u8 = 0;
     let mut e: usize = 0;
     while e < bytes.len() {
-        if n <= bytes[e] {
-            return false;
-        }
+        all = all | bytes[e];
         e += 1;
     }
-    true
+    all
 }
 
 // Whether a memory has 4,096 to 4,194,304 words.
 fn memory_fits(words: usize) -> bool
-    ensures { λ r. ⌜ r ≡ memoryFits words ⌝ }
+    ensures { λ y. ⌜ y ≡ memoryFits words ⌝ }
 {
-    4096 <= words && words <= 4194304
+    (4096 <= words) & (words <= 4194304)
 }
 
-// Whether each number fits its register: of the files only A and B can hold one that does not, so only these are handed over.
-fn registers_fit(a: [u64; 8], b: [u64; 64], xa: u64, vl: u64, ior: u64, bdm: u64) -> bool
-    ensures { λ y. ⌜ ((s t v : List ℕ) (vm : ℕ) → y ≡ registersFit (record { a = a; s = s; b = b; t = t; v = v; xa = xa; vl = vl; vm = vm; ior = ior; bdm = bdm })) ⌝ }
+// Whether every number fits its register.
+fn numbers_fit(r: &[u64]) -> bool
+    requires { ⌜ length (now r) ≡ 672 ⌝ }
+    ensures { λ y. ⌜ y ≡ stateFits (stateOf (now (r .entry))) ⌝ }
 {
-    let narrow = [xa];
-    let modes = [ior, bdm];
-    if !all_below(&a, 16777216) {
-        return false;
-    }
-    if !all_below(&b, 16777216) {
-        return false;
-    }
-    if !all_below(&narrow, 256) {
-        return false;
-    }
-    if !all_below(&modes, 2) {
-        return false;
-    }
-    if vl < 1 {
-        return false;
-    }
-    vl <= 64
+    let registers = ((joined(&r[A..S]) | joined(&r[B..T])) < 16777216)
+        & (r[XA] < 256)
+        & ((r[IOR] | r[BDM]) < 2)
+        & (1 <= r[VL])
+        & (r[VL] <= 64);
+    let frame = ((r[IBA] | r[ILA] | r[DBA] | r[DLA]) < 131072)
+        & ((r[MM] | r[IFP] | r[FPS] | r[PS]) < 2)
+        & (r[CLN] < 4);
+    (r[P] < 16777216) & registers & frame
 }
 
-fn frame_fits(fr: Frame) -> bool
-    ensures { λ y. ⌜ y ≡ frameFits fr ⌝ }
-{
-    let fields = [fr.iba, fr.ila, fr.dba, fr.dla];
-    let modes = [fr.mm, fr.ifp, fr.fps, fr.ps];
-    let cln = [fr.cln];
-    if !all_below(&fields, 131072) {
-        return false;
-    }
-    if !all_below(&modes, 2) {
-        return false;
-    }
-    all_below(&cln, 4)
-}
-
-// The same of a whole processor.
-fn numbers_fit(
-    p: ParcelAddr,
-    a: [u64; 8],
-    b: [u64; 64],
-    xa: u64,
-    vl: u64,
-    ior: u64,
-    bdm: u64,
-    fr: Frame,
-) -> bool
-    ensures { λ y. ⌜ ((s t v : List ℕ) (vm : ℕ) → y ≡ stateFits (record { p = p; registers = record { a = a; s = s; b = b; t = t; v = v; xa = xa; vl = vl; vm = vm; ior = ior; bdm = bdm }; frame = fr })) ⌝ }
-{
-    if 16777216 <= p.0 {
-        return false;
-    }
-    if !registers_fit(a, b, xa, vl, ior, bdm) {
-        return false;
-    }
-    frame_fits(fr)
-}
-
-// Of a start from package x: 1, 2, 4.
-pub fn of_start(words: usize, x: u64, processor: u64) -> u64
-    ensures { λ y. ⌜ y ≡ startRefusal words x processor ⌝ }
+// Of a start: 1, 2, 4.
+pub fn of_start(words: usize, package: u64, processor: u64) -> u64
+    ensures { λ n. ⌜ n ≡ startRefusal words «package» processor ⌝ }
 {
     if !memory_fits(words) {
         return 1;
     }
-    if 255 < x {
+    if 255 < package {
         return 2;
     }
     if 1 < processor {
@@ -119,84 +90,54 @@ pub fn of_start(words: usize, x: u64, processor: u64) -> u64
     0
 }
 
-// Of a step: 1, 4, 7.
-pub fn of_step(st: State, words: usize) -> u64
-    ensures { λ y. ⌜ y ≡ stepRefusal words st ⌝ }
+// Of a turn and of a run: 1, 3, 4, 7.
+pub fn of_run(r: &[u64], words: usize, budget: u64) -> u64
+    requires { ⌜ length (now r) ≡ 672 ⌝ }
+    ensures { λ n. ⌜ n ≡ runRefusal words (stateOf (now (r .entry))) budget ⌝ }
 {
-    let fr = st.frame;
-    if !memory_fits(words) {
-        return 1;
-    }
-    if 1 < fr.processor {
-        return 4;
-    }
-    let r = st.registers;
-    let p = st.p;
-    let a = r.a;
-    let b = r.b;
-    if !numbers_fit(p, a, b, r.xa, r.vl, r.ior, r.bdm, fr) {
-        return 7;
-    }
-    0
-}
-
-// Of a run: 1, 3, 4, 7.
-pub fn of_run(st: State, words: usize, budget: u64) -> u64
-    ensures { λ y. ⌜ y ≡ runRefusal words st budget ⌝ }
-{
-    let fr = st.frame;
     if !memory_fits(words) {
         return 1;
     }
     if 1000000 < budget {
         return 3;
     }
-    if 1 < fr.processor {
+    if 1 < r[PROCESSOR] {
         return 4;
     }
-    let r = st.registers;
-    let p = st.p;
-    let a = r.a;
-    let b = r.b;
-    if !numbers_fit(p, a, b, r.xa, r.vl, r.ior, r.bdm, fr) {
+    if !numbers_fit(r) {
         return 7;
     }
     0
 }
 
-// Of a pair run: 1, 4, 5, 6, 7.
-pub fn of_pair(first: State, second: State, words: usize, schedule: &[u8]) -> u64
-    ensures { λ y. ⌜ y ≡ pairRefusal words first second (now (schedule .entry)) ⌝ }
+// Of a step, as of a run whose budget is not refused: 1, 4, 7.
+pub fn of_step(r: &[u64], words: usize) -> u64
+    requires { ⌜ length (now r) ≡ 672 ⌝ }
+    ensures { λ n. ⌜ n ≡ stepRefusal words (stateOf (now (r .entry))) ⌝ }
 {
-    let x = first.frame;
-    let y = second.frame;
+    of_run(r, words, 0)
+}
+
+// Of a pair run: 1, 4, 5, 6, 7.
+pub fn of_pair(pair: &[u64], words: usize, schedule: &[u8]) -> u64
+    requires { ⌜ length (now pair) ≡ 1344 ⌝ }
+    ensures { λ n. ⌜ n ≡ pairRefusal words (firstOf (now (pair .entry))) (secondOf (now (pair .entry))) (now (schedule .entry)) ⌝ }
+{
+    let first = &pair[0..WORDS];
+    let second = &pair[WORDS..2 * WORDS];
     if !memory_fits(words) {
         return 1;
     }
-    if x.processor != 0 {
-        return 4;
-    }
-    if y.processor != 1 {
+    if !((first[PROCESSOR] == 0) & (second[PROCESSOR] == 1)) {
         return 4;
     }
     if 65536 < schedule.len() {
         return 5;
     }
-    if !bytes_below(schedule, 2) {
+    if 1 < joined_bytes(schedule) {
         return 6;
     }
-    let r = first.registers;
-    let p = first.p;
-    let a = r.a;
-    let b = r.b;
-    if !numbers_fit(p, a, b, r.xa, r.vl, r.ior, r.bdm, x) {
-        return 7;
-    }
-    let r1 = second.registers;
-    let p1 = second.p;
-    let a1 = r1.a;
-    let b1 = r1.b;
-    if !numbers_fit(p1, a1, b1, r1.xa, r1.vl, r1.ior, r1.bdm, y) {
+    if !(numbers_fit(first) & numbers_fit(second)) {
         return 7;
     }
     0

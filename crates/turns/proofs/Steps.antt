@@ -4,7 +4,8 @@ use mathlib.Core.Path.{_≡_, refl, sym, _∙_, ap}
 use mathlib.Core.Bool.{Bool, true, false}
 use mathlib.Core.List.{List}
 use native.Mathlib.Omega.{arith}
-use lib.ListN.{length, getD}
+use lib.ListN.{length, set}
+use lib.Seq.{getD-set-same}
 use lib.Dec.{eqb}
 use borrow.Author.Tests.{ne-eqb, eq-eqb}
 use Rattle.machine.specs.declared.ParcelAddr.{ParcelAddr}
@@ -16,15 +17,17 @@ use Rattle.machine.specs.declared.Answer.the-variants.{Stepped, Exchanged, NotH
 use Rattle.machine.specs.declared.Last.{Last}
 use Rattle.machine.specs.declared.Last.the-variants.{Nothing, Was}
 use Rattle.machine.specs.Word.{pick}
-use Rattle.machine.specs.State.{State, Registers, Frame, Shared, sharing, addr}
+use Rattle.machine.specs.Parcel.{onward}
+use Rattle.machine.specs.State.{State, Registers, Frame, Shared, sharing, addr, user}
 use Rattle.machine.specs.Work.{Done, done, workOf}
-use Rattle.machine.specs.Step.{Out, out, exchange, finish, finishOf, stepOf, goesOn, counted}
-use Rattle.machine.specs.Run.{Turned, turned, turnOf}
-use Rattle.machine.specs.Layout.{registersOf, frameOf}
+use Rattle.machine.specs.Step.{Out, out, inUserMode, exchange, finish, finishOf, stepOf, goesOn, counted}
+use Rattle.machine.specs.Run.{turned, turnOf}
+use Rattle.machine.specs.Layout.{registersOf, frameOf, stateOf}
+use Rattle.access.proofs.Places.{p-puts}
 use Rattle.dispatch.specs.Table.{Ready, Works}
 use Rattle.laws.proofs.Laws.{Narrow, Idle, work-p, work-ok, work-length, work-idle}
 use Rattle.turns.specs.declared.Moved.the-variants.{At, Ends}
-use Rattle.turns.specs.Turn.{stateAt, movedTo, lastAfter, turnedBy, burstEnd, Bursts}
+use Rattle.turns.specs.Turn.{stateAt, movedTo, lastAfter, turnedBy, Bursts, Fitting}
 
 distinct : {A : Type 0} → _≡_ {A = ℕ} 0 1 → A
 distinct e = absurd (omega arith)
@@ -33,8 +36,8 @@ distinct e = absurd (omega arith)
 finish-moved : (st : State) (w : Work) (r : Registers) (sh : Shared) (q : ParcelAddr) → movedTo (st .p .0) w ≡ At q
     → finish st w r sh ≡ out Stepped (record { p = q; registers = r; frame = st .frame }) sh
 unfolding finish
-finish-moved st work.PastOne r sh q e = let z : addr _ ≡ q = cc in rw z
-finish-moved st work.PastTwo r sh q e = let z : addr _ ≡ q = cc in rw z
+finish-moved st work.PastOne r sh q e = let z : addr (onward (st .p .0) 1) ≡ q = cc in rw z
+finish-moved st work.PastTwo r sh q e = let z : addr (onward (st .p .0) 2) ≡ q = cc in rw z
 finish-moved st (work.To p) r sh q e = let z : p ≡ q = cc in rw z
 finish-moved st work.NormalExit r sh q e = distinct (cc)
 finish-moved st work.ErrorExit r sh q e = distinct (cc)
@@ -70,7 +73,7 @@ module _ (w : Work) (r r′ mem mem′ : List ℕ) (p : ParcelAddr) (did : Works
   idle-same : Idle w → registersOf r ≡ registersOf r′
   idle-same i =
       let e : workOf (frameOf r) (registersOf r) (p .0) (sharing mem) ≡ done w (registersOf r) (sharing mem)
-            = work-idle (frameOf r) (registersOf r) (p .0) (sharing mem) (rw (← did .done)) i in
+      = work-idle (frameOf r) (registersOf r) (p .0) (sharing mem) (rw (← did .done)) i in
       ap (λ (d : Done). d .registers) (sym e ∙ sym (did .done))
 
   -- a step that does more than step, as its end finds it
@@ -93,8 +96,24 @@ module _ (w : Work) (r r′ mem mem′ : List ℕ) (p : ParcelAddr) (did : Works
           control = rw (← did .done) at (work-ok (frameOf r) (registersOf r) (p .0) (sharing mem) (g .control));
           processor = rw (did .frame) (g .processor);
         },
-        work-p (frameOf r) (registersOf r) (p .0) (sharing mem) (rw (← did .done)),
+        work-p (frameOf r) (registersOf r) (p .0) (sharing mem) {w = w} (rw (← did .done)),
       )
+
+-- where P goes is an address
+pub narrow-at : (w : Work) (p q : ParcelAddr) → movedTo (p .0) w ≡ At q → Narrow w → q .0 < 2 ^ 24
+narrow-at work.PastOne p q e h = let z : addr (onward (p .0) 1) ≡ q = cc in rw (← z) (omega arith)
+narrow-at work.PastTwo p q e h = let z : addr (onward (p .0) 2) ≡ q = cc in rw (← z) (omega arith)
+narrow-at (work.To p′) p q e h = let z : p′ ≡ q = cc in rw (← z) h
+narrow-at work.NormalExit p q e h = distinct (cc)
+narrow-at work.ErrorExit p q e h = distinct (cc)
+narrow-at (work.OperandRange n) p q e h = distinct (cc)
+narrow-at work.ProgramRange p q e h = distinct (cc)
+narrow-at work.NotHeld p q e h = distinct (cc)
+narrow-at work.MonitorFetch p q e h = distinct (cc)
+
+-- words that are ready fit
+pub fits : (r : List ℕ) (f : Reach) (len : ℕ) → Ready r f len → 4096 ≤ len → Fitting r len
+fits r f len k l = record { long = k .long; frame = k .frame; control = k .control; processor = k .processor; least = l; most = k .reaches .size }
 
 -- one step of a turn with budget left
 module _ (left : ℕ) (l : Last) (n : ℕ) (st : State) (sh : Shared) (some : left ≡ 0 → ⊥) where
@@ -146,17 +165,6 @@ module _ (r₀ mem₀ r mem r′ mem′ : List ℕ) (f : Reach) (from p : Parcel
             ∙ sym (turn-on left (lastAfter (budget - left)) (budget - left) (stateAt p r) (sharing mem) some (stateAt q r′) (sharing mem′) (steps-on w r r′ mem mem′ p did q e))
             ∙ g .rest;
       }
-    where
-      narrow-at : (w : Work) (p q : ParcelAddr) → movedTo (p .0) w ≡ At q → Narrow w → q .0 < 2 ^ 24
-      narrow-at work.PastOne p q e h = let z : addr _ ≡ q = cc in rw (← z) (omega arith)
-      narrow-at work.PastTwo p q e h = let z : addr _ ≡ q = cc in rw (← z) (omega arith)
-      narrow-at (work.To p′) p q e h = let z : p′ ≡ q = cc in rw (← z) h
-      narrow-at work.NormalExit p q e h = distinct (cc)
-      narrow-at work.ErrorExit p q e h = distinct (cc)
-      narrow-at (work.OperandRange n) p q e h = distinct (cc)
-      narrow-at work.ProgramRange p q e h = distinct (cc)
-      narrow-at work.NotHeld p q e h = distinct (cc)
-      narrow-at work.MonitorFetch p q e h = distinct (cc)
 
   pub ends : movedTo (p .0) w ≡ Ends → Bursts p (budget - left) w r₀ r′ mem₀ mem′ f from budget
   ends e =
@@ -184,3 +192,36 @@ spent r₀ mem₀ r mem f from p budget left g e =
       steps = omega arith;
       turn = rw (eq-eqb budget budget refl) (rw (e, z) at (g .rest));
     }
+
+-- P set in its place
+pub set-p : (p : ParcelAddr) (r : List ℕ) → length r ≡ 672 → stateOf (set r 0 (p .0)) ≡ stateAt p r
+set-p p r long = let k = p-puts r (p .0) in rw (getD-set-same r 0 (p .0) 0 (omega arith), k .0, k .1)
+
+pub some-after : (n : ℕ) → (n ≡ 0 → ⊥) → Was Stepped ≡ lastAfter n
+some-after zero h = absurd (h refl)
+some-after (suc n) h = refl
+
+-- the flag of an exit is one of nine bits
+pub flag-small : (fr : Frame) (flag : ℕ) → flag < 512 → inUserMode fr flag < 512
+flag-small fr flag l = go (user fr)
+  where
+    go : (u : Bool) → pick u flag 0 < 512
+    go true = l
+    go false = omega arith
+
+-- how a turn ends, by its burst
+module _ (p : ParcelAddr) (n : ℕ) (w : Work) (r r′ mem mem′ : List ℕ) (f : Reach) (from : ParcelAddr) (budget : ℕ) (b : Bursts p n w r r′ mem mem′ f from budget) where
+  pub turn-spent : n ≡ budget → turned (lastAfter n) n (stateAt p r′) (sharing mem′) ≡ turnOf budget Nothing 0 (stateAt from r) (sharing mem)
+  turn-spent e = rw (eq-eqb n budget e) at (b .turn)
+
+  pub turn-finished : (n ≡ budget → ⊥) → (o : Out) → o ≡ finish (stateAt p r′) w (registersOf r′) (sharing mem′) → turnedBy n o ≡ turnOf budget Nothing 0 (stateAt from r) (sharing mem)
+  turn-finished ne o e = ap (turnedBy n) e ∙ (rw (ne-eqb n budget ne) at (b .turn))
+
+  pub still-fitting : length mem′ ≡ length mem → 4096 ≤ length mem → Fitting r′ (length mem′)
+  still-fitting e l = fits r′ f (length mem′) (b .ready) (omega arith)
+
+pub counted-small : (o : Answer) → counted o ≤ 1
+counted-small Stepped = omega arith
+counted-small (Exchanged flags) = omega arith
+counted-small (NotHeld p) = omega arith
+counted-small (MonitorFetch p) = omega arith

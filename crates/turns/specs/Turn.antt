@@ -74,15 +74,19 @@ pub record Fitting (r : List ℕ) (len : ℕ) : Type 0 where
   pub least : 4096 ≤ len
   pub most : len ≤ 4194304
 
--- a turn's last answer is an exchange; else the ending of a run that it ends
+-- an answer, and a turn's last answer, is an exchange
+abbrev pub exchanges : Answer → Bool
+exchanges Stepped = false
+exchanges (Exchanged flags) = true
+exchanges (NotHeld p) = false
+exchanges (MonitorFetch p) = false
+
 abbrev pub isExchange : Last → Bool
 isExchange Nothing = false
-isExchange (Was Stepped) = false
-isExchange (Was (Exchanged flags)) = true
-isExchange (Was (NotHeld p)) = false
-isExchange (Was (MonitorFetch p)) = false
+isExchange (Was o) = exchanges o
 isExchange (Refused n) = false
 
+-- the ending of a run that a turn ends
 abbrev pub lastEnding : Last → Ending
 lastEnding Nothing = ending.Budget
 lastEnding (Was o) = endingOf o

@@ -3,8 +3,7 @@ pub mod pair;
 pub mod run;
 
 ghost use mathlib.Core.Path.{_≡_};
-ghost use mathlib.Core.List.{List};
-ghost use Prim.Native.Nat.{ℕ, _^_, _<_, _≤_};
+ghost use Prim.Native.Nat.{_^_, _<_, _≤_};
 ghost use lib.ListN.{length, getD};
 ghost use Rattle.machine.specs.declared.Answer.the-variants.{Exchanged};
 ghost use Rattle.machine.specs.declared.Last.the-variants.{Nothing};
@@ -37,7 +36,7 @@ pub enum Moved {
 }
 
 // P moves here alone.
-fn moved(p: ParcelAddr, w: Work) -> Moved
+fn move_p(p: ParcelAddr, w: Work) -> Moved
     ensures { λ o. ⌜ o ≡ movedTo (p .0) w ⌝ }
 {
     match w {
@@ -70,7 +69,7 @@ fn take_burst(r: &mut [u64], mem: &mut [u64], f: Reach, from: ParcelAddr, budget
     let mut left = budget;
     while left != 0 {
         let w = dispatch::work(r, mem, f, p);
-        let Moved::At(next) = moved(p, w) else {
+        let Moved::At(next) = move_p(p, w) else {
             return Burst {
                 p,
                 steps: budget - left,
@@ -183,7 +182,8 @@ pub fn turn(r: &mut [u64], mem: &mut [u64], budget: u64) -> Turned
     ensures { λ t. ⌜ turned (t .last) (t .steps) (stateOf (now (r .exit))) (sharing (now (mem .exit))) ≡ turnOf budget Nothing 0 (stateOf (now (r .entry))) (sharing (now (mem .entry))) ⌝ }
 {
     let f = access::reach(r, mem);
-    let burst = take_burst(r, mem, f, ParcelAddr(r[access::P]), budget);
+    let from = ParcelAddr(r[access::P]);
+    let burst = take_burst(r, mem, f, from, budget);
     let p = burst.p;
     let steps = burst.steps;
     if steps == budget {

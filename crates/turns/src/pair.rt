@@ -1,122 +1,183 @@
-// A pair run: two processors over one memory, by a schedule. Bytes that stand together are one turn.
+// A pair run: two processors over one memory, by a schedule. Their words stand one after the other in one list.
 ghost use mathlib.Core.Path.{_≡_};
-ghost use mathlib.Core.List.{[]};
-ghost use Prim.Native.Nat.{ℕ, _+_, _^_, _<_, _≤_};
+ghost use Prim.Native.Nat.{_-_, _^_, _<_, _≤_};
 ghost use lib.ListN.{length, getD};
-ghost use Rattle.machine.specs.Run.{pairOf};
-ghost use Rattle.machine.specs.Call.{pairCalled, pairedTo, lastOf};
-ghost use Rattle.access.specs.Layout.{frame, FrameOk, KOk};
-ghost use Rattle.turns.specs.Turn.{state, soFar};
+ghost use Rattle.machine.specs.declared.Last.the-variants.{Nothing};
+ghost use Rattle.machine.specs.State.{sharing};
+ghost use Rattle.machine.specs.Step.{out, finish};
+ghost use Rattle.machine.specs.Run.{pairEnded, pairOf};
+ghost use Rattle.machine.specs.Layout.{part, registersOf, stateOf, firstOf, secondOf};
+ghost use Rattle.dispatch.specs.Table.{Ready, Works};
+ghost use Rattle.laws.proofs.Laws.{Narrow};
+ghost use Rattle.turns.specs.Turn.{stateAt, Fitting};
+ghost use Rattle.turns.specs.Pair.{Side, sideOf, Passes, Comes};
+use crate::Moved;
 use machine::Answer;
 use machine::Last;
 use machine::ParcelAddr;
+use machine::Reach;
 use machine::Work;
 
-// P of both after a pair run, how many steps stepped or exchanged, and the last answer.
-pub struct PairWent {
-    pub first: ParcelAddr,
-    pub second: ParcelAddr,
-    pub steps: u64,
-    pub last: Last,
+// What the processor whose words start at `at` reaches.
+fn reach_at(pair: &[u64], mem: &[u64], at: usize) -> Reach
+    requires { ⌜ (length (now pair) ≡ 1344) × Side at ⌝ }
+    requires { ⌜ Fitting (part at 672 (now pair)) (length (now mem)) ⌝ }
+    ensures { λ f. ⌜ Ready (part at 672 (now (pair .entry))) f (length (now (mem .entry))) ⌝ }
+{
+    let end = at + 672;
+    access::reach(&pair[at..end], mem)
 }
 
-// The last answer where each of n steps stepped.
-fn all_stepped(n: usize) -> Last
-    ensures { λ r. ⌜ r ≡ lastOf (soFar n) ⌝ }
+// The work of its step; the other's words stay.
+fn step_at(pair: &mut [u64], mem: &mut [u64], at: usize, f: Reach, p: ParcelAddr) -> Work
+    requires { ⌜ (length (now pair) ≡ 1344) × Side at ⌝ }
+    requires { ⌜ Ready (part at 672 (now pair)) f (length (now mem)) ⌝ }
+    requires { ⌜ p .0 < 2 ^ 24 ⌝ }
+    ensures { λ w. ⌜ Works w (part at 672 (now (pair .entry))) (part at 672 (now (pair .exit))) (now (mem .entry)) (now (mem .exit)) (p .0) ⌝ }
+    ensures { λ w. ⌜ part (672 - at) 672 (now (pair .exit)) ≡ part (672 - at) 672 (now (pair .entry)) ⌝ }
 {
-    if n == 0 {
-        Last::Nothing
-    } else {
-        Last::Was(Answer::Stepped)
+    let end = at + 672;
+    let r = &mut pair[at..end];
+    dispatch::work(r, mem, f, p)
+}
+
+// Its P becomes p.
+fn keep_p(pair: &mut [u64], at: usize, p: ParcelAddr)
+    requires { ⌜ (length (now pair) ≡ 1344) × Side at ⌝ }
+    ensures { λ _. ⌜ stateOf (part at 672 (now (pair .exit))) ≡ stateAt p (part at 672 (now (pair .entry))) ⌝ }
+    ensures { λ _. ⌜ part (672 - at) 672 (now (pair .exit)) ≡ part (672 - at) 672 (now (pair .entry)) ⌝ }
+{
+    let end = at + 672;
+    let r = &mut pair[at..end];
+    crate::set_p(r, p)
+}
+
+// The end of its step.
+fn finish_at(pair: &mut [u64], mem: &mut [u64], at: usize, p: ParcelAddr, w: Work) -> Answer
+    requires { ⌜ (length (now pair) ≡ 1344) × Side at ⌝ }
+    requires { ⌜ Fitting (part at 672 (now pair)) (length (now mem)) ⌝ }
+    requires { ⌜ (p .0 < 2 ^ 24) × Narrow w ⌝ }
+    ensures { λ o. ⌜ out o (stateOf (part at 672 (now (pair .exit)))) (sharing (now (mem .exit))) ≡ finish (stateAt p (part at 672 (now (pair .entry)))) w (registersOf (part at 672 (now (pair .entry)))) (sharing (now (mem .entry))) ⌝ }
+    ensures { λ o. ⌜ part (672 - at) 672 (now (pair .exit)) ≡ part (672 - at) 672 (now (pair .entry)) ⌝ }
+{
+    let end = at + 672;
+    let r = &mut pair[at..end];
+    crate::finish(r, mem, p, w)
+}
+
+// The processor whose step is next: where its words start, its P, what it reaches, and the byte that named it.
+pub struct Next {
+    pub at: usize,
+    pub p: ParcelAddr,
+    pub f: Reach,
+    pub byte: u8,
+}
+
+// The next step is of the processor that a byte names. P of the one before goes to its place, and the other's comes from its own.
+fn pass(pair: &mut [u64], first: Reach, second: Reach, from: Next, byte: u8) -> Next
+    requires { ⌜ (length (now pair) ≡ 1344) × Side (from .at) ⌝ }
+    ensures { λ to. ⌜ (to .at ≡ sideOf byte) × (to .byte ≡ byte) ⌝ }
+    ensures { λ to. ⌜ Passes from to first second (now (pair .entry)) (now (pair .exit)) ⌝ }
+{
+    keep_p(pair, from.at, from.p);
+    if byte == 0 {
+        return Next {
+            at: 0,
+            p: ParcelAddr(pair[0]),
+            f: first,
+            byte,
+        };
+    }
+    Next {
+        at: 672,
+        p: ParcelAddr(pair[672]),
+        f: second,
+        byte,
     }
 }
 
-// How many bytes from the n-th on are equal to it, without a break.
-fn stretch(schedule: &[u8], n: usize) -> usize
-    requires { ⌜ n < length (now schedule) ⌝ }
-    ensures { λ m. ⌜ (0 < m) × (n + m ≤ length (now (schedule .entry))) × ((j : ℕ) → j < m → getD (now (schedule .entry)) (n + j) 0 ≡ getD (now (schedule .entry)) n 0) ⌝ }
-{
-    let byte = schedule[n];
-    let mut end: usize = n + 1;
-    while end < schedule.len() && schedule[end] == byte {
-        end += 1;
-    }
-    end - n
+// How far a schedule came: whose step is next, its P, the steps, and how the work of the next ended, if it has one.
+pub struct Came {
+    pub at: usize,
+    pub p: ParcelAddr,
+    pub steps: usize,
+    pub work: Work,
 }
 
-// A step for each byte of a schedule, 0 naming the first processor, up to and including the first that does not step. The windows
-// hold all this time: only an exchange changes fields, and it ends a pair run.
-pub fn take_schedule(
-    a: &mut [u64; 8],
-    s: &mut [u64; 8],
-    b: &mut [u64; 64],
-    t: &mut [u64; 64],
-    v: &mut [u64; 512],
-    k: &mut [u64; 5],
-    q: &mut [u64; 10],
-    a1: &mut [u64; 8],
-    s1: &mut [u64; 8],
-    b1: &mut [u64; 64],
-    t1: &mut [u64; 64],
-    v1: &mut [u64; 512],
-    k1: &mut [u64; 5],
-    q1: &mut [u64; 10],
-    mem: &mut [u64],
-    first: ParcelAddr,
-    second: ParcelAddr,
-    schedule: &[u8],
-) -> PairWent
-    requires { ⌜ KOk (now k) × KOk (now k1) ⌝ }
-    requires { ⌜ FrameOk (frame (now q)) × FrameOk (frame (now q1)) ⌝ }
-    requires { ⌜ (4096 ≤ length (now mem)) × (length (now mem) ≤ 2 ^ 22) ⌝ }
-    requires { ⌜ (first .0 < 2 ^ 24) × (second .0 < 2 ^ 24) × (length (now schedule) ≤ 65536) ⌝ }
-    ensures { λ r. ⌜ pairCalled (r .last) (r .steps) (state (r .first) (now (a .exit)) (now (s .exit)) (now (b .exit)) (now (t .exit)) (now (v .exit)) (now (k .exit)) (now (q .exit))) (state (r .second) (now (a1 .exit)) (now (s1 .exit)) (now (b1 .exit)) (now (t1 .exit)) (now (v1 .exit)) (now (k1 .exit)) (now (q1 .exit))) (now (mem .exit)) ≡ pairedTo (pairOf (now (schedule .entry)) [] 0 (state first (now (a .entry)) (now (s .entry)) (now (b .entry)) (now (t .entry)) (now (v .entry)) (now (k .entry)) (now (q .entry))) (state second (now (a1 .entry)) (now (s1 .entry)) (now (b1 .entry)) (now (t1 .entry)) (now (v1 .entry)) (now (k1 .entry)) (now (q1 .entry))) (now (mem .entry))) ⌝ }
+// Steps until the schedule is spent or one does more than step. What both reach stays as it is all this time.
+fn take(pair: &mut [u64], mem: &mut [u64], schedule: &[u8]) -> Came
+    requires { ⌜ (length (now pair) ≡ 1344) × (length (now schedule) ≤ 65536) ⌝ }
+    requires { ⌜ Fitting (part 0 672 (now pair)) (length (now mem)) × Fitting (part 672 672 (now pair)) (length (now mem)) ⌝ }
+    requires { ⌜ (getD (now pair) 0 0 < 2 ^ 24) × (getD (now pair) 672 0 < 2 ^ 24) ⌝ }
+    ensures { λ o. ⌜ Comes (o .at) (o .p) (o .steps) (o .work) (now (schedule .entry)) (now (pair .entry)) (now (pair .exit)) (now (mem .entry)) (now (mem .exit)) ⌝ }
 {
-    let f = access::reach(q, mem);
-    let f1 = access::reach(q1, mem);
-    let mut p = first;
-    let mut p1 = second;
+    let first = reach_at(pair, mem, 0);
+    let second = reach_at(pair, mem, 672);
+    let mut next = Next {
+        at: 0,
+        p: ParcelAddr(pair[0]),
+        f: first,
+        byte: 0,
+    };
     let mut n: usize = 0;
     while n < schedule.len() {
-        let m = stretch(schedule, n);
-        if schedule[n] == 0 {
-            let came = crate::take_burst(a, s, b, t, v, k, q, mem, f, p, m as u64);
-            let work = came.work;
-            let Work::Next(to) = work else {
-                let went = crate::end_turn(a, s, k, q, mem, came);
-                let last = went.last;
-                let to = went.p;
-                return PairWent {
-                    first: to,
-                    second: p1,
-                    steps: n as u64 + went.steps,
-                    last: Last::Was(last),
-                };
-            };
-            p = to;
-            n += m;
-        } else {
-            let came = crate::take_burst(a1, s1, b1, t1, v1, k1, q1, mem, f1, p1, m as u64);
-            let work = came.work;
-            let Work::Next(to) = work else {
-                let went = crate::end_turn(a1, s1, k1, q1, mem, came);
-                let last = went.last;
-                let to = went.p;
-                return PairWent {
-                    first: p,
-                    second: to,
-                    steps: n as u64 + went.steps,
-                    last: Last::Was(last),
-                };
-            };
-            p1 = to;
-            n += m;
+        if schedule[n] != next.byte {
+            next = pass(pair, first, second, next, schedule[n]);
         }
+        let at = next.at;
+        let f = next.f;
+        let p = next.p;
+        let byte = next.byte;
+        let w = step_at(pair, mem, at, f, p);
+        let Moved::At(q) = crate::move_p(p, w) else {
+            return Came {
+                at,
+                p,
+                steps: n,
+                work: w,
+            };
+        };
+        next = Next { at, p: q, f, byte };
+        n += 1;
     }
-    PairWent {
-        first: p,
-        second: p1,
-        steps: n as u64,
-        last: all_stepped(n),
+    let p = next.p;
+    Came {
+        at: next.at,
+        p,
+        steps: n,
+        work: Work::To(p),
+    }
+}
+
+// The last answer of a pair run, and how many of its steps stepped or exchanged.
+pub struct Paired {
+    pub last: Last,
+    pub steps: u64,
+}
+
+// A step for each byte of a schedule, 0 naming the first processor, up to and including the first that exchanges or stops.
+pub fn take_schedule(pair: &mut [u64], mem: &mut [u64], schedule: &[u8]) -> Paired
+    requires { ⌜ (length (now pair) ≡ 1344) × (length (now schedule) ≤ 65536) ⌝ }
+    requires { ⌜ Fitting (part 0 672 (now pair)) (length (now mem)) × Fitting (part 672 672 (now pair)) (length (now mem)) ⌝ }
+    requires { ⌜ (getD (now pair) 0 0 < 2 ^ 24) × (getD (now pair) 672 0 < 2 ^ 24) ⌝ }
+    ensures { λ o. ⌜ pairEnded (o .last) (o .steps) (firstOf (now (pair .exit))) (secondOf (now (pair .exit))) (sharing (now (mem .exit))) ≡ pairOf (now (schedule .entry)) Nothing 0 (firstOf (now (pair .entry))) (secondOf (now (pair .entry))) (sharing (now (mem .entry))) ⌝ }
+{
+    let came = take(pair, mem, schedule);
+    let at = came.at;
+    let p = came.p;
+    let n = came.steps;
+    let steps = n as u64;
+    if n == schedule.len() {
+        keep_p(pair, at, p);
+        return Paired {
+            last: crate::last_after(steps),
+            steps,
+        };
+    }
+    let work = came.work;
+    let answer = finish_at(pair, mem, at, p, work);
+    Paired {
+        last: Last::Was(answer),
+        steps: steps + crate::count_of(answer),
     }
 }

@@ -1,23 +1,19 @@
 // Vector instructions 140 to 157, 174 and 175. Each loop goes over as many elements as VL says, and an element that it has not
 // reached reads as it stood before the instruction: so Vi may be an operand too.
 ghost use mathlib.Core.Path.{_≡_};
-ghost use mathlib.Core.List.{List, [], _∷_};
-ghost use Prim.Native.Nat.{ℕ, _+_, _-_, _*_, _^_, _<_};
-ghost use lib.ListN.{getD, set};
-ghost use Rattle.machine.specs.declared.Frame.{Frame};
-ghost use Rattle.machine.specs.declared.Work.the-variants.{Next};
-ghost use Rattle.machine.specs.Word.{pick, leftPair, rightPair};
-ghost use Rattle.machine.specs.Parcel.{hOf, iOf, jOf, kOf, onward};
-ghost use Rattle.machine.specs.State.{zeroOr, el, fill, ToVM, apply};
-ghost use Rattle.machine.specs.Act.{masked, marksOf, after, before, AndSV, AndVV, OrSV, OrVV, XorSV, XorVV, MergeSV, MergeVV, LeftV, RightV, LeftPairV, RightPairV, SumSV, SumVV, DifferenceSV, DifferenceVV};
-ghost use Rattle.machine.specs.Codes.{One, row, code174, code175};
-ghost use Rattle.machine.specs.Work.{done, execute, parcel};
-ghost use Rattle.access.specs.Layout.{registers, KOk};
-ghost use Rattle.vector.specs.Element.{twoOf, oneOf, testOf};
-use access::VL;
+ghost use mathlib.Core.Logic.{_⊎_};
+ghost use mathlib.Core.Bool.{true};
+ghost use Prim.Native.Nat.{_+_, _-_, _*_, _/_, _^_, _<_, _≤_};
+ghost use lib.ListN.{length};
+ghost use Rattle.machine.specs.declared.Work.the-variants.{PastOne, NotHeld};
+ghost use Rattle.machine.specs.Word.{pick};
+ghost use Rattle.machine.specs.Parcel.{iOf, jOf, kOf};
+ghost use Rattle.machine.specs.Act.{masked};
+ghost use Rattle.machine.specs.Layout.{registersOf};
+ghost use Rattle.access.specs.Executed.{Alone};
+ghost use Rattle.vector.specs.Element.{twoOf, oneOf, testOf, codeOfTwo, OneCode, digitOf, plain, other, Vector, twoMasks, leftAt, mergedTwo};
+use access::V;
 use access::VM;
-use machine::ParcelAddr;
-use machine::Work;
 
 // What is made of two words.
 pub enum TwoWords {
@@ -81,6 +77,18 @@ fn meets(test: Test, x: u64) -> bool
     }
 }
 
+// The bit of VM for element e, where y meets the test; else 0.
+fn mark_of(test: Test, y: u64, e: usize) -> u64
+    requires { ⌜ e < 64 ⌝ }
+    ensures { λ r. ⌜ r ≡ pick (testOf test y) (2 ^ (63 - e)) 0 ⌝ }
+{
+    if meets(test, y) {
+        9223372036854775808 >> e
+    } else {
+        0
+    }
+}
+
 // x where VM has a one for element e, else y. It is made of bits, so that a loop over elements has no branch.
 fn chosen(vm: u64, e: usize, x: u64, y: u64) -> u64
     requires { ⌜ e < 64 ⌝ }
@@ -94,268 +102,287 @@ fn chosen(vm: u64, e: usize, x: u64, y: u64) -> u64
     word::merged(x, y, mask)
 }
 
-// The bit of VM for element e, where y meets the test; else 0.
-fn mark_of(test: Test, y: u64, e: usize) -> u64
-    requires { ⌜ e < 64 ⌝ }
-    ensures { λ r. ⌜ r ≡ pick (testOf test y) (2 ^ (63 - e)) 0 ⌝ }
+// The place of the first element of Vi, Vj and Vk.
+fn v_i(x: u64) -> usize
+    ensures { λ n. ⌜ n ≡ 160 + iOf x * 64 ⌝ }
 {
-    if meets(test, y) {
-        9223372036854775808 >> e
-    } else {
-        0
-    }
+    V + access::i(x) * 64
 }
 
-// Element e of V register r.
-fn element(v: &[u64; 512], r: usize, e: usize) -> u64
-    requires { ⌜ (r < 8) × (e < 64) ⌝ }
-    ensures { λ y. ⌜ y ≡ el (now (v .entry)) r e ⌝ }
+fn v_j(x: u64) -> usize
+    ensures { λ n. ⌜ n ≡ 160 + jOf x * 64 ⌝ }
 {
-    v[r * 64 + e]
+    V + access::j(x) * 64
 }
 
-// Element e of V register r becomes y.
-fn put(v: &mut [u64; 512], r: usize, e: usize, y: u64)
-    requires { ⌜ (r < 8) × (e < 64) ⌝ }
-    ensures { λ _. ⌜ now (v .exit) ≡ set (now (v .entry)) (r * 64 + e) y ⌝ }
+fn v_k(x: u64) -> usize
+    ensures { λ n. ⌜ n ≡ 160 + kOf x * 64 ⌝ }
 {
-    v[r * 64 + e] = y;
+    V + access::k(x) * 64
 }
 
-// 140, 142, 144, 154, 156: Vi from Sj and Vk.
-fn scalar_vector(
-    s: &[u64; 8],
-    v: &mut [u64; 512],
-    k: &[u64; 5],
-    op: TwoWords,
-    p: ParcelAddr,
-    x: u64,
-) -> Work
-    requires { ⌜ KOk (now k) ⌝ }
-    ensures { λ w. ⌜ (now (v .exit) ≡ fill (iOf x * 64) (λ e. twoOf op (zeroOr (now (s .entry)) (jOf x)) (el (now (v .entry)) (kOf x) e)) (getD (now (k .entry)) 1 0) (now (v .entry))) × (w ≡ Next (parcel (onward (p .0) 1))) ⌝ }
+// 140, 142, 144, 154, 156: Vi from Sj and Vk, of n elements.
+fn with(r: &mut [u64], op: TwoWords, x: u64, n: usize)
+    requires { ⌜ (length (now r) ≡ 672) × (registersOf (now r) .vl ≡ n) × (n ≤ 64) ⌝ }
+    requires { ⌜ x / 512 ≡ codeOfTwo op ⌝ }
+    ensures { λ _. ⌜ Alone PastOne (now (r .entry)) (now (r .exit)) x ⌝ }
 {
-    let to = access::i(x);
-    let left = access::at_j(s, x);
-    let from = access::k(x);
-    let n = k[VL] as usize;
+    let to = v_i(x);
+    let left = access::s_j(r, x);
+    let right = v_k(x);
     let mut e: usize = 0;
     while e < n {
-        let y = of_two(op, left, element(v, from, e));
-        put(v, to, e, y);
+        r[to + e] = of_two(op, left, r[right + e]);
         e += 1;
     }
-    access::past(p, 1)
 }
 
 // 141, 143, 145, 155, 157: Vi from Vj and Vk.
-fn two_vectors(v: &mut [u64; 512], k: &[u64; 5], op: TwoWords, p: ParcelAddr, x: u64) -> Work
-    requires { ⌜ KOk (now k) ⌝ }
-    ensures { λ w. ⌜ (now (v .exit) ≡ fill (iOf x * 64) (λ e. twoOf op (el (now (v .entry)) (jOf x) e) (el (now (v .entry)) (kOf x) e)) (getD (now (k .entry)) 1 0) (now (v .entry))) × (w ≡ Next (parcel (onward (p .0) 1))) ⌝ }
+fn both(r: &mut [u64], op: TwoWords, x: u64, n: usize)
+    requires { ⌜ (length (now r) ≡ 672) × (registersOf (now r) .vl ≡ n) × (n ≤ 64) ⌝ }
+    requires { ⌜ x / 512 ≡ codeOfTwo op + 1 ⌝ }
+    ensures { λ _. ⌜ Alone PastOne (now (r .entry)) (now (r .exit)) x ⌝ }
 {
-    let to = access::i(x);
-    let left = access::j(x);
-    let right = access::k(x);
-    let n = k[VL] as usize;
+    let to = v_i(x);
+    let left = v_j(x);
+    let right = v_k(x);
     let mut e: usize = 0;
     while e < n {
-        let y = element(v, left, e);
-        let z = element(v, right, e);
-        put(v, to, e, of_two(op, y, z));
+        r[to + e] = of_two(op, r[left + e], r[right + e]);
         e += 1;
     }
-    access::past(p, 1)
 }
 
-// 146: Vi from Sj where VM has a one, else from Vk.
-fn merge_scalar(s: &[u64; 8], v: &mut [u64; 512], k: &[u64; 5], p: ParcelAddr, x: u64) -> Work
-    requires { ⌜ KOk (now k) ⌝ }
-    ensures { λ w. ⌜ (now (v .exit) ≡ fill (iOf x * 64) (λ e. pick (masked (getD (now (k .entry)) 2 0) e) (zeroOr (now (s .entry)) (jOf x)) (el (now (v .entry)) (kOf x) e)) (getD (now (k .entry)) 1 0) (now (v .entry))) × (w ≡ Next (parcel (onward (p .0) 1))) ⌝ }
+// 140 to 145 and 154 to 157, where VL is 64: loops that the compiler unrolls.
+pub fn full(r: &mut [u64], x: u64)
+    requires { ⌜ (length (now r) ≡ 672) × (registersOf (now r) .vl ≡ 64) × (plain (x / 512) ≡ true) ⌝ }
+    ensures { λ _. ⌜ Alone PastOne (now (r .entry)) (now (r .exit)) x ⌝ }
 {
-    let to = access::i(x);
-    let left = access::at_j(s, x);
-    let from = access::k(x);
-    let vm = k[VM];
-    let n = k[VL] as usize;
-    let mut e: usize = 0;
-    while e < n {
-        let y = chosen(vm, e, left, element(v, from, e));
-        put(v, to, e, y);
-        e += 1;
+    match x / 512 {
+        0o140 => with(r, TwoWords::And, x, 64),
+        0o141 => both(r, TwoWords::And, x, 64),
+        0o142 => with(r, TwoWords::Or, x, 64),
+        0o143 => both(r, TwoWords::Or, x, 64),
+        0o144 => with(r, TwoWords::Xor, x, 64),
+        0o145 => both(r, TwoWords::Xor, x, 64),
+        0o154 => with(r, TwoWords::Sum, x, 64),
+        0o155 => both(r, TwoWords::Sum, x, 64),
+        0o156 => with(r, TwoWords::Difference, x, 64),
+        _ => both(r, TwoWords::Difference, x, 64),
     }
-    access::past(p, 1)
 }
 
-// 147: Vi from Vj where VM has a one, else from Vk.
-fn merge_vectors(v: &mut [u64; 512], k: &[u64; 5], p: ParcelAddr, x: u64) -> Work
-    requires { ⌜ KOk (now k) ⌝ }
-    ensures { λ w. ⌜ (now (v .exit) ≡ fill (iOf x * 64) (λ e. pick (masked (getD (now (k .entry)) 2 0) e) (el (now (v .entry)) (jOf x) e) (el (now (v .entry)) (kOf x) e)) (getD (now (k .entry)) 1 0) (now (v .entry))) × (w ≡ Next (parcel (onward (p .0) 1))) ⌝ }
+// The same, of as many elements as VL says.
+pub fn part(r: &mut [u64], x: u64)
+    requires { ⌜ Vector (now r) × (plain (x / 512) ≡ true) ⌝ }
+    ensures { λ _. ⌜ Alone PastOne (now (r .entry)) (now (r .exit)) x ⌝ }
 {
-    let to = access::i(x);
-    let left = access::j(x);
-    let right = access::k(x);
-    let vm = k[VM];
-    let n = k[VL] as usize;
+    let n = access::vl(r);
+    match x / 512 {
+        0o140 => with(r, TwoWords::And, x, n),
+        0o141 => both(r, TwoWords::And, x, n),
+        0o142 => with(r, TwoWords::Or, x, n),
+        0o143 => both(r, TwoWords::Or, x, n),
+        0o144 => with(r, TwoWords::Xor, x, n),
+        0o145 => both(r, TwoWords::Xor, x, n),
+        0o154 => with(r, TwoWords::Sum, x, n),
+        0o155 => both(r, TwoWords::Sum, x, n),
+        0o156 => with(r, TwoWords::Difference, x, n),
+        _ => both(r, TwoWords::Difference, x, n),
+    }
+}
+
+// The left operand of a merge: the word s, or the one at a place.
+fn left_of(r: &[u64], scalar: bool, s: u64, at: usize) -> u64
+    requires { ⌜ at < length (now r) ⌝ }
+    ensures { λ y. ⌜ y ≡ leftAt (now (r .entry)) scalar s at ⌝ }
+{
+    if scalar { s } else { r[at] }
+}
+
+// Two elements of a merge, by the first two of the bits; the masks are those of 00, 01, 10 and 11. Both are made before the first is
+// stored, so that the compiler can do them as one.
+fn two(
+    r: &mut [u64],
+    masks: &[u64; 8],
+    bits: u64,
+    scalar: bool,
+    s: u64,
+    left: usize,
+    right: usize,
+    to: usize,
+)
+    requires { ⌜ (length (now r) ≡ 672) × (now masks ≡ twoMasks) ⌝ }
+    requires { ⌜ (left + 2 ≤ 672) × (right + 2 ≤ 672) × (to + 2 ≤ 672) ⌝ }
+    ensures { λ _. ⌜ now (r .exit) ≡ mergedTwo (now (r .entry)) bits scalar s left right to ⌝ }
+{
+    let at = (bits >> 62) as usize * 2;
+    let y = word::merged(left_of(r, scalar, s, left), r[right], masks[at]);
+    let z = word::merged(left_of(r, scalar, s, left + 1), r[right + 1], masks[at + 1]);
+    r[to] = y;
+    r[to + 1] = z;
+}
+
+// 146 and 147 with the masks; what is left after the fours goes one by one.
+fn merge_by(r: &mut [u64], masks: &[u64; 8], scalar: bool, x: u64)
+    requires { ⌜ Vector (now r) × (now masks ≡ twoMasks) × (x / 512 ≡ pick scalar 0o146 0o147) ⌝ }
+    ensures { λ _. ⌜ Alone PastOne (now (r .entry)) (now (r .exit)) x ⌝ }
+{
+    let to = v_i(x);
+    let s = access::s_j(r, x);
+    let left = v_j(x);
+    let right = v_k(x);
+    let vm = access::vm(r);
+    let n = access::vl(r);
+    let fours = n - n % 4;
+    let mut bits = vm;
     let mut e: usize = 0;
+    while e < fours {
+        two(r, masks, bits, scalar, s, left + e, right + e, to + e);
+        two(
+            r,
+            masks,
+            bits << 2,
+            scalar,
+            s,
+            left + e + 2,
+            right + e + 2,
+            to + e + 2,
+        );
+        bits = bits << 4;
+        e += 4;
+    }
     while e < n {
-        let y = chosen(vm, e, element(v, left, e), element(v, right, e));
-        put(v, to, e, y);
+        r[to + e] = chosen(vm, e, left_of(r, scalar, s, left + e), r[right + e]);
         e += 1;
     }
-    access::past(p, 1)
+}
+
+// 146: Vi from Sj where VM has a one, else from Vk. 147: the same from Vj.
+pub fn merge(r: &mut [u64], x: u64)
+    requires { ⌜ Vector (now r) × ((x / 512 ≡ 0o146) ⊎ (x / 512 ≡ 0o147)) ⌝ }
+    ensures { λ _. ⌜ Alone PastOne (now (r .entry)) (now (r .exit)) x ⌝ }
+{
+    let ones = 18446744073709551615;
+    let masks = [0, 0, 0, ones, ones, 0, ones, ones];
+    merge_by(r, &masks, x / 512 == 0o146, x)
 }
 
 // 150, 151, 174: Vi from Vj.
-fn one_vector(
-    v: &mut [u64; 512],
-    k: &[u64; 5],
-    op: OneWord,
-    count: u64,
-    p: ParcelAddr,
-    x: u64,
-) -> Work
-    requires { ⌜ KOk (now k) ⌝ }
-    ensures { λ w. ⌜ (now (v .exit) ≡ fill (iOf x * 64) (λ e. oneOf op (el (now (v .entry)) (jOf x) e) count) (getD (now (k .entry)) 1 0) (now (v .entry))) × (w ≡ Next (parcel (onward (p .0) 1))) ⌝ }
+fn one_vector(r: &mut [u64], op: OneWord, x: u64) -> bool
+    requires { ⌜ Vector (now r) ⌝ }
+    requires { ⌜ OneCode op x ⌝ }
+    ensures { λ held. ⌜ Alone (pick held PastOne NotHeld) (now (r .entry)) (now (r .exit)) x ⌝ }
 {
-    let to = access::i(x);
-    let from = access::j(x);
-    let n = k[VL] as usize;
+    let to = v_i(x);
+    let from = v_j(x);
+    let count = access::a_k(r, x);
+    let n = access::vl(r);
     let mut e: usize = 0;
     while e < n {
-        let y = of_one(op, element(v, from, e), count);
-        put(v, to, e, y);
+        r[to + e] = of_one(op, r[from + e], count);
         e += 1;
     }
-    access::past(p, 1)
+    true
 }
 
 // 152: each element of Vj with the one after it, the last with zero, shifted left.
-fn left_pairs(v: &mut [u64; 512], k: &[u64; 5], count: u64, p: ParcelAddr, x: u64) -> Work
-    requires { ⌜ KOk (now k) ⌝ }
-    ensures { λ w. ⌜ (now (v .exit) ≡ fill (iOf x * 64) (λ e. leftPair (el (now (v .entry)) (jOf x) e) (after (now (v .entry)) (jOf x) (getD (now (k .entry)) 1 0) e) count) (getD (now (k .entry)) 1 0) (now (v .entry))) × (w ≡ Next (parcel (onward (p .0) 1))) ⌝ }
+fn left_pairs(r: &mut [u64], x: u64) -> bool
+    requires { ⌜ Vector (now r) × (x / 512 ≡ 0o152) ⌝ }
+    ensures { λ held. ⌜ Alone (pick held PastOne NotHeld) (now (r .entry)) (now (r .exit)) x ⌝ }
 {
-    let to = access::i(x);
-    let from = access::j(x);
-    let last = k[VL] as usize - 1;
+    let to = v_i(x);
+    let from = v_j(x);
+    let count = access::a_k(r, x);
+    let last = access::vl(r) - 1;
     let mut e: usize = 0;
     while e < last {
-        let y = word::left_pair(element(v, from, e), element(v, from, e + 1), count);
-        put(v, to, e, y);
+        r[to + e] = word::left_pair(r[from + e], r[from + e + 1], count);
         e += 1;
     }
-    let y = word::left_pair(element(v, from, last), 0, count);
-    put(v, to, last, y);
-    access::past(p, 1)
+    r[to + last] = word::left_pair(r[from + last], 0, count);
+    true
 }
 
 // 153: each element of Vj with the one before it, the first with zero, shifted right.
-fn right_pairs(v: &mut [u64; 512], k: &[u64; 5], count: u64, p: ParcelAddr, x: u64) -> Work
-    requires { ⌜ KOk (now k) ⌝ }
-    ensures { λ w. ⌜ (now (v .exit) ≡ fill (iOf x * 64) (λ e. rightPair (before (now (v .entry)) (jOf x) e) (el (now (v .entry)) (jOf x) e) count) (getD (now (k .entry)) 1 0) (now (v .entry))) × (w ≡ Next (parcel (onward (p .0) 1))) ⌝ }
+fn right_pairs(r: &mut [u64], x: u64) -> bool
+    requires { ⌜ Vector (now r) × (x / 512 ≡ 0o153) ⌝ }
+    ensures { λ held. ⌜ Alone (pick held PastOne NotHeld) (now (r .entry)) (now (r .exit)) x ⌝ }
 {
-    let to = access::i(x);
-    let from = access::j(x);
-    let n = k[VL] as usize;
+    let to = v_i(x);
+    let from = v_j(x);
+    let count = access::a_k(r, x);
+    let n = access::vl(r);
     let mut high: u64 = 0;
     let mut e: usize = 0;
     while e < n {
-        let low = element(v, from, e);
+        let low = r[from + e];
         let y = word::right_pair(high, low, count);
-        put(v, to, e, y);
+        r[to + e] = y;
         high = low;
         e += 1;
     }
-    access::past(p, 1)
-}
-
-// 175: VM has a one for each element of Vj that meets the test.
-fn mark_where(v: &[u64; 512], k: &mut [u64; 5], test: Test, p: ParcelAddr, x: u64) -> Work
-    requires { ⌜ KOk (now k) ⌝ }
-    ensures { λ w. ⌜ ((a s b t vs : List ℕ) → registers a s b t vs (now (k .exit)) ≡ apply (ToVM (marksOf (λ e. testOf test (el (now (v .entry)) (jOf x) e)) (getD (now (k .entry)) 1 0))) (registers a s b t vs (now (k .entry)))) ⌝ }
-    ensures { λ w. ⌜ w ≡ Next (parcel (onward (p .0) 1)) ⌝ }
-{
-    let from = access::j(x);
-    let n = k[VL] as usize;
-    let mut vm: u64 = 0;
-    let mut e: usize = 0;
-    while e < n {
-        let y = element(v, from, e);
-        vm += mark_of(test, y, e);
-        e += 1;
-    }
-    access::set_control(k, VM, vm);
-    access::past(p, 1)
-}
-
-// 140 to 147: logical sums and products, and merges.
-pub fn logic_140(s: &[u64; 8], v: &mut [u64; 512], k: &[u64; 5], p: ParcelAddr, x: u64) -> Work
-    requires { ⌜ KOk (now k) ⌝ }
-    ensures { λ w. ⌜ ((fr : Frame) (a b t mem : List ℕ) → done w (registers a (now (s .entry)) b t (now (v .exit)) (now (k .entry))) mem ≡ execute fr (registers a (now (s .entry)) b t (now (v .entry)) (now (k .entry))) (p .0) mem (row (One AndSV ∷ One AndVV ∷ One OrSV ∷ One OrVV ∷ One XorSV ∷ One XorVV ∷ One MergeSV ∷ One MergeVV ∷ []) (hOf x)) x) ⌝ }
-{
-    let h = access::h(x);
-    match h {
-        0 => scalar_vector(s, v, k, TwoWords::And, p, x),
-        1 => two_vectors(v, k, TwoWords::And, p, x),
-        2 => scalar_vector(s, v, k, TwoWords::Or, p, x),
-        3 => two_vectors(v, k, TwoWords::Or, p, x),
-        4 => scalar_vector(s, v, k, TwoWords::Xor, p, x),
-        5 => two_vectors(v, k, TwoWords::Xor, p, x),
-        6 => merge_scalar(s, v, k, p, x),
-        _ => merge_vectors(v, k, p, x),
-    }
-}
-
-// 150 to 157: shifts of words and of pairs, sums and differences.
-pub fn shift_sum_150(
-    a: &[u64; 8],
-    s: &[u64; 8],
-    v: &mut [u64; 512],
-    k: &[u64; 5],
-    p: ParcelAddr,
-    x: u64,
-) -> Work
-    requires { ⌜ KOk (now k) ⌝ }
-    ensures { λ w. ⌜ ((fr : Frame) (b t mem : List ℕ) → done w (registers (now (a .entry)) (now (s .entry)) b t (now (v .exit)) (now (k .entry))) mem ≡ execute fr (registers (now (a .entry)) (now (s .entry)) b t (now (v .entry)) (now (k .entry))) (p .0) mem (row (One LeftV ∷ One RightV ∷ One LeftPairV ∷ One RightPairV ∷ One SumSV ∷ One SumVV ∷ One DifferenceSV ∷ One DifferenceVV ∷ []) (hOf x)) x) ⌝ }
-{
-    let h = access::h(x);
-    match h {
-        0 => one_vector(v, k, OneWord::Left, access::a_k(a, x), p, x),
-        1 => one_vector(v, k, OneWord::Right, access::a_k(a, x), p, x),
-        2 => left_pairs(v, k, access::a_k(a, x), p, x),
-        3 => right_pairs(v, k, access::a_k(a, x), p, x),
-        4 => scalar_vector(s, v, k, TwoWords::Sum, p, x),
-        5 => two_vectors(v, k, TwoWords::Sum, p, x),
-        6 => scalar_vector(s, v, k, TwoWords::Difference, p, x),
-        _ => two_vectors(v, k, TwoWords::Difference, p, x),
-    }
+    true
 }
 
 // 174: ones in each element of Vj, or their parity.
-pub fn count(v: &mut [u64; 512], k: &[u64; 5], p: ParcelAddr, x: u64) -> Work
-    requires { ⌜ KOk (now k) ⌝ }
-    ensures { λ w. ⌜ ((fr : Frame) (a s b t mem : List ℕ) → done w (registers a s b t (now (v .exit)) (now (k .entry))) mem ≡ execute fr (registers a s b t (now (v .entry)) (now (k .entry))) (p .0) mem (code174 (kOf x)) x) ⌝ }
+fn count(r: &mut [u64], x: u64) -> bool
+    requires { ⌜ Vector (now r) × (x / 512 ≡ 0o174) ⌝ }
+    ensures { λ held. ⌜ Alone (pick held PastOne NotHeld) (now (r .entry)) (now (r .exit)) x ⌝ }
 {
-    let digit = access::k(x);
-    match digit {
-        1 => one_vector(v, k, OneWord::Ones, 0, p, x),
-        2 => one_vector(v, k, OneWord::Parity, 0, p, x),
-        _ => Work::Unheld,
+    match access::k(x) {
+        1 => one_vector(r, OneWord::Ones, x),
+        2 => one_vector(r, OneWord::Parity, x),
+        _ => false,
     }
 }
 
-// 175: VM marks the elements of Vj that are zero, not zero, plus or minus.
-pub fn mark(v: &[u64; 512], k: &mut [u64; 5], p: ParcelAddr, x: u64) -> Work
-    requires { ⌜ KOk (now k) ⌝ }
-    ensures { λ w. ⌜ ((fr : Frame) (a s b t mem : List ℕ) → done w (registers a s b t (now (v .entry)) (now (k .exit))) mem ≡ execute fr (registers a s b t (now (v .entry)) (now (k .entry))) (p .0) mem (code175 (iOf x) (kOf x)) x) ⌝ }
+// 175: VM has a one for each element of Vj that meets the test.
+fn mark_where(r: &mut [u64], test: Test, x: u64) -> bool
+    requires { ⌜ Vector (now r) ⌝ }
+    requires { ⌜ (x / 512 ≡ 0o175) × (iOf x ≡ 0) × (kOf x ≡ digitOf test) ⌝ }
+    ensures { λ held. ⌜ Alone (pick held PastOne NotHeld) (now (r .entry)) (now (r .exit)) x ⌝ }
+{
+    let from = v_j(x);
+    let n = access::vl(r);
+    let mut vm: u64 = 0;
+    let mut e: usize = 0;
+    while e < n {
+        vm += mark_of(test, r[from + e], e);
+        e += 1;
+    }
+    access::set_control(r, VM, vm);
+    true
+}
+
+// 175: the elements of Vj that are zero, not zero, plus or minus.
+fn mark(r: &mut [u64], x: u64) -> bool
+    requires { ⌜ Vector (now r) × (x / 512 ≡ 0o175) ⌝ }
+    ensures { λ held. ⌜ Alone (pick held PastOne NotHeld) (now (r .entry)) (now (r .exit)) x ⌝ }
 {
     if access::i(x) != 0 {
-        return Work::Unheld;
+        return false;
     }
-    let digit = access::k(x);
-    match digit {
-        0 => mark_where(v, k, Test::Zero, p, x),
-        1 => mark_where(v, k, Test::NonZero, p, x),
-        2 => mark_where(v, k, Test::Plus, p, x),
-        3 => mark_where(v, k, Test::Minus, p, x),
-        _ => Work::Unheld,
+    match access::k(x) {
+        0 => mark_where(r, Test::Zero, x),
+        1 => mark_where(r, Test::NonZero, x),
+        2 => mark_where(r, Test::Plus, x),
+        3 => mark_where(r, Test::Minus, x),
+        _ => false,
+    }
+}
+
+// 150 to 153, 174 and 175; whether the machine holds the code.
+pub fn others(r: &mut [u64], x: u64) -> bool
+    requires { ⌜ Vector (now r) × (other (x / 512) ≡ true) ⌝ }
+    ensures { λ held. ⌜ Alone (pick held PastOne NotHeld) (now (r .entry)) (now (r .exit)) x ⌝ }
+{
+    match x / 512 {
+        0o150 => one_vector(r, OneWord::Left, x),
+        0o151 => one_vector(r, OneWord::Right, x),
+        0o152 => left_pairs(r, x),
+        0o153 => right_pairs(r, x),
+        0o174 => count(r, x),
+        _ => mark(r, x),
     }
 }

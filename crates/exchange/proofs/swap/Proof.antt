@@ -1,33 +1,25 @@
+use Rattle.exchange.proofs.Laws.{narrow, swaps}
 use borrow.Author.Needs.{needs}
-use Rattle.machine.specs.Exchange.{loaded}
-use Rattle.machine.specs.Step.{exchange}
 use Rattle.exchange.proofs.swap.Statement.{statement}
 use Rattle.exchange.proofs.swap.Tie as tie
 
-element-copy-out-x : tie.Need-element-copy-out-x
-element-copy-out-x c = search needs
-
-package-requires : tie.Need-package-requires
-package-requires c κs = search needs
-
-save-requires : tie.Need-save-requires
-save-requires c κs = search needs
-
-load-requires : tie.Need-load-requires
-load-requires c κs = search needs
-
-same-length : tie.Need-same-length
-same-length c = search needs
+saved-words-requires : tie.Need-saved-words-requires
+saved-words-requires c κs =
+    let start = c .before .before .before in
+    ((start .pre .0 .0, start .pre .0 .2, start .pre .0 .3), narrow _ (start .pre .1 .0) (start .pre .1 .1))
 
 returns : tie.Need-returns
-unfolding exchange loaded
 returns c =
-    let w = c .before .before .before .before .before .before .before .before .before .before .before .before .before .before .«package» .ensures in
-    let saved = c .before .before .before .before .before .before .before .before .save .ensures in
-    let new = c .load .ensures in
-    ((λ b t v. rw (new .0 .2, new .0 .0 b t v, new .0 .1, w, saved b t v)), new .1)
+    let put-sixteen = c .before .before .before .before .before .before .put-sixteen in
+    let chosen2 = c .before .before .before .before .before .before .before .chosen2 in
+    let sixteen = c .before .before .before .before .before .before .before .before .before .sixteen in
+    let chosen = c .before .before .before .before .before .before .before .before .before .before .chosen in
+    let saved-words = c .before .before .before .before .before .before .before .before .before .before .before .before .saved-words in
+    let start = c .before .before .before .before .before .before .before .before .before .before .before .before .before .before .before .before in
+    swaps _ _ _ _ (saved-words .result) (sixteen .result) _ _ _ _ (start .pre .1 .1) (start .pre .0 .3)
+    (saved-words .ensures) (chosen .ensures) (sixteen .ensures) (chosen2 .ensures) (put-sixteen .ensures) (c .before .before .load .ensures)
 
 pub swap-spec : {M : Type 1} → statement M
 swap-spec =
-    tie.close
-    (tie.spec element-copy-out-x package-requires save-requires load-requires same-length returns)
+    tie.close (tie.spec saved-words-requires (λ c κs. search needs) (λ c κs. search needs) (λ c κs. search needs)
+    (λ c κs. search needs) (λ c κs. search needs) (λ c. search needs) (λ c. search needs) returns)

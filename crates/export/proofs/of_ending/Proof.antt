@@ -1,19 +1,6 @@
--- `export::of_ending` meets its contract. Assumes nothing.
 use borrow.Author.Needs.{needs}
 use Rattle.export.proofs.of_ending.Statement.{statement}
 use Rattle.export.proofs.of_ending.Tie as tie
-
-enum-told : tie.Need-enum-told
-enum-told c = search needs
-
-enum-known-o : tie.Need-enum-known-o
-enum-known-o c = search needs
-
-enum-known-o-2 : tie.Need-enum-known-o-2
-enum-known-o-2 c = search needs
-
-enum-known-o-3 : tie.Need-enum-known-o-3
-enum-known-o-3 c = search needs
 
 returns : tie.Need-returns
 returns c = rw (c .enum-told .given .1)
@@ -29,13 +16,5 @@ returns-4 c = rw (c .before .o3 .given .1)
 
 pub of-ending-spec : {M : Type 1} → statement M
 of-ending-spec =
-    tie.close
-    (tie.spec
-    enum-told
-    enum-known-o
-    enum-known-o-2
-    enum-known-o-3
-    returns
-    returns-2
-    returns-3
-    returns-4)
+    tie.close (tie.spec (λ c. search needs) (λ c. search needs) (λ c. search needs) (λ c. search needs) returns
+    returns-2 returns-3 returns-4)

@@ -1,85 +1,57 @@
-use Prim.Native.Nat.{_≤_, _<_, _-_}
-use mathlib.Core.Path.{_≡_, refl}
+use Prim.Native.Nat.{_-_, _≤_}
+use mathlib.Core.Path.{_≡_, refl, _∙_}
+use mathlib.Core.Logic.{inl, inr}
 use native.Mathlib.Omega.{arith}
-use borrow.Author.Needs.{needs}
-use lib.ListN.{getD}
-use Rattle.machine.specs.Act.{marksOf}
 use Rattle.machine.specs.Parcel.{jOf}
-use Rattle.machine.specs.State.{el, apply}
+use Rattle.machine.specs.Act.{marksOf}
+use Rattle.machine.specs.Layout.{registersOf}
+use Rattle.access.proofs.Places.{el-at}
 use Rattle.vector.specs.Element.{testOf}
-use Rattle.vector.proofs.Laws.{marks-turn, marks-fit}
+use Rattle.vector.proofs.Loops.{vj}
+use Rattle.vector.proofs.Marks.{marks-turn, marks-fit}
+use Rattle.vector.proofs.Arms.{marking}
+use borrow.Author.Needs.{needs}
 use Rattle.vector.proofs.mark_where.Statement.{statement}
 use Rattle.vector.proofs.mark_where.Tie as tie
 
 abbrev Inv-loop : tie.InvT-loop
-Inv-loop v k test p x from n vm₀ e₀ vm e = (e ≤ n) × (vm ≡ marksOf (λ q. testOf test (el v from q)) e)
+Inv-loop r test x from n vm₀ e₀ vm e = (e ≤ n) × (vm ≡ marksOf (λ q. testOf test (vj r x q)) e)
 
 abbrev μ-loop : tie.MeasureT-loop
-μ-loop v k test p x from n vm₀ e₀ vm e = n - e
-
-j-requires : tie.Need-j-requires Inv-loop μ-loop
-j-requires c κs = search needs
-
-element-copy-out-n : tie.Need-element-copy-out-n Inv-loop μ-loop
-element-copy-out-n c = search needs
+μ-loop r test x from n vm₀ e₀ vm e = n - e
 
 loop-holds : tie.Need-loop-holds Inv-loop μ-loop
 unfolding marksOf
 loop-holds c = (omega arith, refl)
 
-element-requires : tie.Need-element-requires Inv-loop μ-loop
-element-requires c κs = search needs
-
-mark-of-requires : tie.Need-mark-of-requires Inv-loop μ-loop
-mark-of-requires c κs = search needs
-
 add-vm : tie.Need-add-vm Inv-loop μ-loop
 add-vm c =
-    let l = c .before .before .before .loop in
-    let h : l .e < 64 = omega arith in
-    omega (arith, marks-fit _ _ _ (c .mark-of .result) h (l .inv .1) (cc))
-
-add-e : tie.Need-add-e Inv-loop μ-loop
-add-e c = search needs
-
-loop-less : tie.Need-loop-less Inv-loop μ-loop
-loop-less c = search needs
+    let loop = c .before .before .before .loop in
+    let v-j = c .before .before .before .before .before .before .v-j in
+    let start = c .before .before .before .before .before .before .before .before in
+    let y = el-at (start .args .r .now) (jOf (start .args .x)) (loop .e) (omega arith) (omega arith) in
+    omega (arith, marks-fit _ _ _ (c .mark-of .result) (omega arith) (loop .inv .1) (c .mark-of .ensures ∙ rw (v-j .ensures, y)))
 
 loop-again : tie.Need-loop-again Inv-loop μ-loop
 loop-again c =
-    let l = c .before .before .before .loop in
-    (omega arith, marks-turn _ _ _ (c .mark-of .result) (l .inv .1) (cc))
+    let loop = c .before .before .before .loop in
+    let v-j = c .before .before .before .before .before .before .v-j in
+    let start = c .before .before .before .before .before .before .before .before in
+    let y = el-at (start .args .r .now) (jOf (start .args .x)) (loop .e) (omega arith) (omega arith) in
+    (omega arith, marks-turn _ _ _ _ (loop .inv .1) (c .mark-of .ensures ∙ rw (v-j .ensures, y)))
 
 set-control-requires : tie.Need-set-control-requires Inv-loop μ-loop
-set-control-requires c κs = search needs
-
-past-requires : tie.Need-past-requires Inv-loop μ-loop
-past-requires c κs = search needs
+set-control-requires c κs = (search needs, inr (inl refl))
 
 returns : tie.Need-returns Inv-loop μ-loop
-unfolding apply
 returns c =
-    let l = c .before .before .before .before in
-    let a = l .before .before .before .args in
-    let e : l .loop .e ≡ getD (a .k .now) 1 0 = omega arith in
-    let vm : l .loop .vm ≡ marksOf (λ q. testOf (a .test) (el (a .v .now) (jOf (a .x)) q)) (getD (a .k .now) 1 0) = rw (← l .before .before .j .ensures, ← e) (l .loop .inv .1) in
-    ((λ a′ s b t v. rw (← vm) (c .before .set-control .ensures a′ s b t v)), c .past .ensures)
+    let loop = c .before .before .before .before .before .loop in
+    let start = c .before .before .before .before .before .before .before .before .before .before in
+    let e : loop .e ≡ registersOf (start .args .r .now) .vl = omega arith in
+    marking _ _ _ (start .args .test) (start .pre .1) (rw (loop .inv .1, e) at (c .before .before .set-control .ensures))
 
 pub mark-where-spec : {M : Type 1} → statement M
 mark-where-spec =
-    tie.close
-    (tie.spec
-    Inv-loop
-    μ-loop
-    j-requires
-    element-copy-out-n
-    loop-holds
-    element-requires
-    mark-of-requires
-    add-vm
-    add-e
-    loop-less
-    loop-again
-    set-control-requires
-    past-requires
-    returns)
+    tie.close (tie.spec Inv-loop μ-loop (λ c κs. search needs) (λ c κs. search needs) loop-holds (λ c. search needs)
+    (λ c. search needs) (λ c. search needs) (λ c κs. search needs) add-vm (λ c. search needs) (λ c. search needs)
+    loop-again set-control-requires (λ c. search needs) returns)

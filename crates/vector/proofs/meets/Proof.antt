@@ -2,18 +2,6 @@ use borrow.Author.Needs.{needs}
 use Rattle.vector.proofs.meets.Statement.{statement}
 use Rattle.vector.proofs.meets.Tie as tie
 
-enum-told : tie.Need-enum-told
-enum-told c = search needs
-
-enum-told-2 : tie.Need-enum-told-2
-enum-told-2 c = search needs
-
-enum-told-3 : tie.Need-enum-told-3
-enum-told-3 c = search needs
-
-enum-told-4 : tie.Need-enum-told-4
-enum-told-4 c = search needs
-
 returns : tie.Need-returns
 returns c = rw (c .enum-told .given .1)
 
@@ -28,5 +16,5 @@ returns-4 c = rw (c .enum-told4 .given .1)
 
 pub meets-spec : {M : Type 1} → statement M
 meets-spec =
-    tie.close
-    (tie.spec enum-told enum-told-2 enum-told-3 enum-told-4 returns returns-2 returns-3 returns-4)
+    tie.close (tie.spec (λ c. search needs) (λ c. search needs) (λ c. search needs) (λ c. search needs) returns
+    returns-2 returns-3 returns-4)

@@ -1,83 +1,39 @@
-use Prim.Native.Nat.{_≤_, _<_, _-_, _*_}
-use mathlib.Core.Path.{_≡_, refl}
+use Prim.Native.Nat.{_+_, _-_}
 use native.Mathlib.Omega.{arith}
-use borrow.Author.Needs.{needs}
-use lib.ListN.{getD}
-use Rattle.machine.specs.State.{el, fill}
+use Rattle.machine.specs.Parcel.{jOf, kOf}
+use Rattle.machine.specs.State.{ak}
+use Rattle.machine.specs.Layout.{registersOf}
 use Rattle.vector.specs.Element.{oneOf}
-use Rattle.access.proofs.Laws.{fill-turn}
-use Rattle.vector.proofs.Laws.{ahead}
+use Rattle.vector.proofs.Loops.{vj, Doing, begins, reads, goes, ends}
+use Rattle.vector.proofs.Arms.{of-vj}
+use borrow.Author.Needs.{needs}
 use Rattle.vector.proofs.one_vector.Statement.{statement}
 use Rattle.vector.proofs.one_vector.Tie as tie
 
 abbrev Inv-loop : tie.InvT-loop
-Inv-loop v₀ k op count p x to from n e₀ v e = (e ≤ n) × (v ≡ fill (to * 64) (λ q. oneOf op (el v₀ from q) count) e v₀)
+Inv-loop r₀ op x to from count n e₀ r e = Doing x n (λ q. oneOf op (vj r₀ x q) (ak (registersOf r₀) (kOf x))) r₀ r e
 
 abbrev μ-loop : tie.MeasureT-loop
-μ-loop v₀ k op count p x to from n e₀ v e = n - e
-
-i-requires : tie.Need-i-requires Inv-loop μ-loop
-i-requires c κs = search needs
-
-j-requires : tie.Need-j-requires Inv-loop μ-loop
-j-requires c κs = search needs
-
-element-copy-out-n : tie.Need-element-copy-out-n Inv-loop μ-loop
-element-copy-out-n c = search needs
+μ-loop r₀ op x to from count n e₀ r e = n - e
 
 loop-holds : tie.Need-loop-holds Inv-loop μ-loop
-unfolding fill
-loop-holds c = (omega arith, refl)
-
-element-requires : tie.Need-element-requires Inv-loop μ-loop
-element-requires c κs = search needs
-
-of-one-requires : tie.Need-of-one-requires Inv-loop μ-loop
-of-one-requires c κs = search needs
-
-put-requires : tie.Need-put-requires Inv-loop μ-loop
-put-requires c κs = search needs
-
-add-e : tie.Need-add-e Inv-loop μ-loop
-add-e c = search needs
-
-loop-less : tie.Need-loop-less Inv-loop μ-loop
-loop-less c = search needs
+loop-holds c = begins _ _ _ _ (search needs)
 
 loop-again : tie.Need-loop-again Inv-loop μ-loop
 loop-again c =
-    let l = c .before .before .before .before .before .before in
-    let p = l .loop .inv .1 in
-    let h : l .loop .e < 64 = omega arith in (
-      omega arith,
-      fill-turn _ _ _ _ _ _ _ p (c .put .ensures)
-          (cc (ahead _ (l .before .before .j .result) _ _ _ _ _ (omega arith) h p)),
-    )
-
-past-requires : tie.Need-past-requires Inv-loop μ-loop
-past-requires c κs = search needs
+    let loop = c .before .before .before .loop in
+    let v-j = c .before .before .before .before .before .before .before .before .v-j in
+    let start = c .before .before .before .before .before .before .before .before .before .before .before in
+    goes (loop .inv) _ _ (omega arith) (cc (reads (loop .inv) (jOf (start .args .x)) (loop .e) (v-j .result + loop .e) (omega arith)))
 
 returns : tie.Need-returns Inv-loop μ-loop
 returns c =
-    let l = c .before .before in
-    let e : l .loop .e ≡ getD (l .before .before .before .before .args .k .now) 1 0 = omega arith in
-    (rw (← l .before .before .before .i .ensures, ← l .before .before .j .ensures, ← e) (l .loop .inv .1), c .past .ensures)
+    let start = c .before .before .before .before .before .before .before .before .before in
+    of-vj _ _ _ (start .args .op) (start .pre .1) (ends (c .before .loop .inv) (omega arith))
 
 pub one-vector-spec : {M : Type 1} → statement M
 one-vector-spec =
-    tie.close
-    (tie.spec
-    Inv-loop
-    μ-loop
-    i-requires
-    j-requires
-    element-copy-out-n
-    loop-holds
-    element-requires
-    of-one-requires
-    put-requires
-    add-e
-    loop-less
-    loop-again
-    past-requires
-    returns)
+    tie.close (tie.spec Inv-loop μ-loop (λ c κs. search needs) (λ c κs. search needs) (λ c κs. search needs)
+    (λ c κs. search needs) loop-holds (λ c. search needs) (λ c. search needs) (λ c. search needs)
+    (λ c κs. search needs) (λ c. search needs) (λ c. search needs) (λ c. search needs) (λ c. search needs)
+    (λ c. search needs) loop-again (λ c. search needs) returns)

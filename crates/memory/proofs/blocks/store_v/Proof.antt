@@ -1,63 +1,26 @@
+use native.Mathlib.Omega.{arith}
+use Rattle.memory.proofs.Fields.{held}
+use Rattle.memory.proofs.Many.{vector-stored}
 use borrow.Author.Needs.{needs}
-use borrow.Author.Tests.{ne-eqb}
-use Rattle.machine.specs.Act.{act}
-use Rattle.machine.specs.Work.{perform, execute}
 use Rattle.memory.proofs.blocks.store_v.Statement.{statement}
 use Rattle.memory.proofs.blocks.store_v.Tie as tie
 
-i-requires : tie.Need-i-requires
-i-requires c κs = search needs
+store-requires : tie.Need-store-requires
+store-requires c κs =
+    let vl = c .before .before .before .vl in
+    let start = c .before .before .before .before .before .before in
+    ((start .pre .0 .0, omega (arith, c .j .ensures), omega arith, omega (arith, vl .ensures, start .pre .0 .3)), held _ _ _ _ (start .pre .1))
 
 returns : tie.Need-returns
-unfolding execute
-returns c = λ fr s b t h. rw (← c .before .i .ensures) (simp (ne-eqb _ _ (c .if1 .taken)))
-
-element-copy-out-n : tie.Need-element-copy-out-n
-element-copy-out-n c = search needs
-
-j-requires : tie.Need-j-requires
-j-requires c κs = search needs
-
-mul-store-vector : tie.Need-mul-store-vector
-mul-store-vector c = search needs
-
-at-0-requires : tie.Need-at-0-requires
-at-0-requires c κs = search needs
-
-a-k-requires : tie.Need-a-k-requires
-a-k-requires c κs = search needs
-
-store-vector-requires : tie.Need-store-vector-requires
-store-vector-requires c κs = search needs
-
-on-requires : tie.Need-on-requires
-on-requires c κs = search needs
-
-ended-requires : tie.Need-ended-requires
-ended-requires c κs = search needs
-
-same-length : tie.Need-same-length
-same-length c = search needs
-
-returns-2 : tie.Need-returns-2
-unfolding execute perform act
-returns-2 c = λ fr s b t h.
-    let g = c .before .before .before .before .store-vector .ensures fr h in
-    rw (← c .before .before .before .before .before .before .before .before .before .before .before .i .ensures, c .before .before .before .before .before .before .before .before .before .before .if1 .left, c .ended .ensures, c .before .on .ensures, h .user, g .1, g .0, c .before .before .before .before .before .before .before .before .j .ensures, c .before .before .before .before .before .before .at-0 .ensures, c .before .before .before .before .before .a-k .ensures)
+returns c =
+    let the-j = c .before .before .before .j in
+    let a-k = c .before .before .before .before .before .a-k in
+    let vl = c .before .before .before .before .before .before .vl in
+    let start = c .before .before .before .before .before .before .before .before .before in
+    vector-stored _ _ _ _ _ _ (start .pre .1) (start .pre .0 .3) _ (start .pre .0 .1) (start .pre .0 .2)
+    (rw (the-j .ensures, vl .ensures, a-k .ensures) at (c .before .before .store .ensures))
 
 pub store-v-spec : {M : Type 1} → statement M
 store-v-spec =
-    tie.close
-    (tie.spec
-    i-requires
-    returns
-    element-copy-out-n
-    j-requires
-    mul-store-vector
-    at-0-requires
-    a-k-requires
-    store-vector-requires
-    on-requires
-    ended-requires
-    same-length
-    returns-2)
+    tie.close (tie.spec (λ c κs. search needs) (λ c κs. search needs) (λ c κs. search needs) (λ c. search needs)
+    (λ c. search needs) store-requires (λ c. search needs) returns)

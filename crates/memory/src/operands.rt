@@ -1,0 +1,127 @@
+// The only functions that touch operand memory: a word is read or stored here, and rows of words. A window is `words` words from `first` on.
+ghost use mathlib.Core.Path.{_≡_};
+ghost use Prim.Native.Nat.{ℕ, _+_, _%_, _<_, _≤_};
+ghost use lib.ListN.{length, getD};
+ghost use Rattle.machine.specs.State.{ai, fill};
+ghost use Rattle.machine.specs.Memory.{isBeyond, loadAt, storeAt};
+ghost use Rattle.machine.specs.Layout.{registersOf};
+ghost use Rattle.access.specs.Window.{placeIn};
+ghost use Rattle.access.specs.Executed.{cutTo};
+ghost use Rattle.memory.specs.Moves.{Held, ReadRow, StoredRow, straightOf};
+use machine::Place;
+
+// A word, and whether it lies outside its window, where it is zero.
+pub struct Got(pub u64, pub bool);
+
+// The word at an address.
+pub fn get(mem: &[u64], first: usize, words: u64, n: u64) -> Got
+    requires { ⌜ Held first words (length (now mem)) ⌝ }
+    ensures { λ g. ⌜ (g .0 ≡ loadAt (now (mem .entry)) (placeIn first words n)) × (g .1 ≡ isBeyond (placeIn first words n)) ⌝ }
+{
+    let Place::At(at) = access::locate(first, words, n) else {
+        return Got(0, true);
+    };
+    Got(mem[at], false)
+}
+
+// The word at an address becomes x, unless it lies outside; whether it does.
+pub fn put(mem: &mut [u64], first: usize, words: u64, n: u64, x: u64) -> bool
+    requires { ⌜ Held first words (length (now mem)) ⌝ }
+    ensures { λ o. ⌜ (now (mem .exit) ≡ storeAt (now (mem .entry)) (placeIn first words n) x) × (o ≡ isBeyond (placeIn first words n)) ⌝ }
+{
+    let Place::At(at) = access::locate(first, words, n) else {
+        return true;
+    };
+    mem[at] = x;
+    false
+}
+
+// n words of one list, from `at` on, to another, from `first` on.
+fn copy(to: &mut [u64], first: usize, from: &[u64], at: usize, n: usize, narrow: bool)
+    requires { ⌜ n % 16 ≡ 0 ⌝ }
+    requires { ⌜ ((e : ℕ) → e < n → (first + e < length (now to)) × (at + e < length (now from))) ⌝ }
+    ensures { λ _. ⌜ now (to .exit) ≡ fill first (λ e. cutTo narrow (getD (now (from .entry)) (at + e) 0)) n (now (to .entry)) ⌝ }
+{
+    let mut e: usize = 0;
+    while e < n {
+        access::words::put_sixteen(to, first + e, access::words::sixteen(from, at + e, narrow));
+        e += 16;
+    }
+}
+
+// How many of n words, from the first on, can be copied.
+fn straight(words: u64, reg: usize, n: usize, from: u64, by: u64) -> usize
+    requires { ⌜ (reg < 64) × (n < 128) ⌝ }
+    ensures { λ m. ⌜ m ≡ straightOf words reg n from by ⌝ }
+{
+    let w = access::word_at(from);
+    if by == 1 && reg + n <= 64 && w.0 + n as u64 <= words {
+        n - n % 16
+    } else {
+        0
+    }
+}
+
+// n registers of the file at a place, from `reg` on, from the words at A0, A0 + by, ..; whether one lies outside.
+pub fn read(
+    r: &mut [u64],
+    mem: &[u64],
+    first: usize,
+    words: u64,
+    file: usize,
+    reg: usize,
+    n: usize,
+    by: u64,
+    narrow: bool,
+) -> bool
+    requires { ⌜ (length (now r) ≡ 672) × (file + 64 ≤ 672) × (reg < 64) × (n < 128) ⌝ }
+    requires { ⌜ Held first words (length (now mem)) ⌝ }
+    ensures { λ o. ⌜ ReadRow (now (r .entry)) (now (r .exit)) (now (mem .entry)) first words (ai (registersOf (now (r .entry))) 0) by file reg n narrow o ⌝ }
+{
+    let from = access::a_0(r);
+    let whole = straight(words, reg, n, from, by);
+    let w = access::word_at(from);
+    copy(r, file + reg, mem, first + w.0 as usize, whole, narrow);
+    let mut outside = false;
+    let mut at = std::num::wrapping_add_u64(from, whole as u64);
+    let mut e = whole;
+    while e < n {
+        let got = get(mem, first, words, at);
+        r[file + (reg + e) % 64] = access::words::cut(got.0, narrow);
+        outside = outside | got.1;
+        at = std::num::wrapping_add_u64(at, by);
+        e += 1;
+    }
+    outside
+}
+
+// The same to memory.
+pub fn store(
+    r: &[u64],
+    mem: &mut [u64],
+    first: usize,
+    words: u64,
+    file: usize,
+    reg: usize,
+    n: usize,
+    by: u64,
+) -> bool
+    requires { ⌜ (length (now r) ≡ 672) × (file + 64 ≤ 672) × (reg < 64) × (n < 128) ⌝ }
+    requires { ⌜ Held first words (length (now mem)) ⌝ }
+    ensures { λ o. ⌜ StoredRow (now (r .entry)) (now (mem .entry)) (now (mem .exit)) first words (ai (registersOf (now (r .entry))) 0) by file reg n o ⌝ }
+{
+    let from = access::a_0(r);
+    let whole = straight(words, reg, n, from, by);
+    let w = access::word_at(from);
+    copy(mem, first + w.0 as usize, r, file + reg, whole, false);
+    let mut outside = false;
+    let mut at = std::num::wrapping_add_u64(from, whole as u64);
+    let mut e = whole;
+    while e < n {
+        let o = put(mem, first, words, at, r[file + (reg + e) % 64]);
+        outside = outside | o;
+        at = std::num::wrapping_add_u64(at, by);
+        e += 1;
+    }
+    outside
+}
