@@ -22,8 +22,8 @@ fn run_package(r: &mut [u64; 672], mem: &mut [u64], steps: u64) -> Ran
 // Writes the answer to a sheet at the start of out, as much of it as fits, and answers its whole length: at most 22 bytes for
 // each word of memory, and 8,192 besides.
 pub fn answer(sheet: &[u8], out: &mut [u8]) -> usize
-    ensures { λ r. ⌜ Wrote (now (out .entry)) 0 (answerOf (now (sheet .entry))) (now (out .exit)) r ⌝ }
-    ensures { λ r. ⌜ r ≤ 98304 ⌝ }
+    ensures { λ n. ⌜ Wrote (now (out .entry)) 0 (answerOf (now (sheet .entry))) (now (out .exit)) n ⌝ }
+    ensures { λ n. ⌜ n ≤ 98304 ⌝ }
 {
     let mut mem = [0u64; 4096];
     match text::read(sheet, &mut mem) {
