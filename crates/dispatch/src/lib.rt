@@ -2,7 +2,6 @@
 // whose last arm hands on to the next, which the compiler joins; each has one call.
 ghost use mathlib.Core.Path.{_≡_};
 ghost use mathlib.Core.Bool.{true};
-ghost use mathlib.Core.Logic.{_⊎_};
 ghost use mathlib.Core.List.{List};
 ghost use Prim.Native.Nat.{ℕ, _/_, _^_, _<_, _≤_};
 ghost use lib.ListN.{length};
@@ -168,17 +167,17 @@ fn held(holds: bool) -> Work
     if holds { Work::PastOne } else { Work::NotHeld }
 }
 
-// 140 to 145 and 154 to 157: all 64 elements, or as many as VL says.
-fn vectors(r: &mut [u64], x: u64) -> Work
+// 140 to 145 and 154 to 157: all 64 elements, or as many as VL says. It gives nothing, and so do the other functions that stay outside the
+// loop of steps: an answer that is handed on in memory would cost every step.
+fn vectors(r: &mut [u64], x: u64)
     requires { ⌜ Vector (now r) × (plain (x / 512) ≡ true) ⌝ }
-    ensures { λ w. ⌜ Alone w (now (r .entry)) (now (r .exit)) x ⌝ }
+    ensures { λ _. ⌜ Alone PastOne (now (r .entry)) (now (r .exit)) x ⌝ }
 {
     if access::vl(r) == 64 {
         vector::full(r, x);
     } else {
         vector::part(r, x);
     }
-    Work::PastOne
 }
 
 // The end of an instruction of one parcel that moved words, perhaps outside the data field.
@@ -213,15 +212,6 @@ fn store_v(r: &[u64], mem: &mut [u64], f: Reach, x: u64) -> Work
     moved(memory::blocks::store_v(r, mem, f.operands, f.words, x), r)
 }
 
-// 146 and 147.
-fn merge(r: &mut [u64], x: u64) -> Work
-    requires { ⌜ Vector (now r) × ((x / 512 ≡ 0o146) ⊎ (x / 512 ≡ 0o147)) ⌝ }
-    ensures { λ w. ⌜ Alone w (now (r .entry)) (now (r .exit)) x ⌝ }
-{
-    vector::merge(r, x);
-    Work::PastOne
-}
-
 // 100 to 177.
 fn from_100(r: &mut [u64], mem: &mut [u64], f: Reach, p: ParcelAddr, x: u64, n: u64) -> Work
     requires { ⌜ Ready (now r) f (length (now mem)) ⌝ }
@@ -233,11 +223,23 @@ fn from_100(r: &mut [u64], mem: &mut [u64], f: Reach, p: ParcelAddr, x: u64, n: 
         0o110 => memory::store(r, mem, f, p, x, File::A),
         0o120 => memory::load(r, mem, f, p, x, File::S),
         0o130 => memory::store(r, mem, f, p, x, File::S),
-        0o140 => vectors(r, x),
-        0o146 => merge(r, x),
-        0o147 => merge(r, x),
+        0o140 => {
+            vectors(r, x);
+            Work::PastOne
+        }
+        0o146 => {
+            vector::merge(r, x);
+            Work::PastOne
+        }
+        0o147 => {
+            vector::merge(r, x);
+            Work::PastOne
+        }
         0o150 => held(vector::others(r, x)),
-        0o154 => vectors(r, x),
+        0o154 => {
+            vectors(r, x);
+            Work::PastOne
+        }
         0o174 => held(vector::others(r, x)),
         0o176 => read_v(r, mem, f, x),
         0o177 => store_v(r, mem, f, x),

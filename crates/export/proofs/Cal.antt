@@ -13,7 +13,8 @@ use Rattle.spelling.specs.declared.Listed.{Listed}
 use Rattle.spelling.specs.declared.Listed.the-variants.{Bytes, TooLong}
 use Rattle.spelling.specs.Assembling.{Reading, All, Wrong, readOf, assembledTo, roomAfter, assembled, roomAssembled, assembledNumbers}
 use Rattle.spelling.specs.Listing.{listOf, listed, roomListed, listedNumbers}
-use Rattle.export.specs.Left.{left, refused, reported, afterAssemble, afterList}
+use Rattle.numbers.specs.Left.{left, refused}
+use Rattle.export.specs.Cal.{reported, afterAssemble, afterList}
 
 -- what is made of the room where the number is 0, and else the room
 abbrev kept : List ℕ → List ℕ → List ℕ → List ℕ

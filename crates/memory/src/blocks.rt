@@ -9,6 +9,7 @@ ghost use Rattle.machine.specs.State.{ai};
 ghost use Rattle.machine.specs.Layout.{registersOf, frameOf};
 ghost use Rattle.memory.specs.Moves.{Window, Moved};
 use crate::operands;
+use crate::operands::Row;
 
 // How many registers a block has: the low seven bits of Ai.
 fn block(r: &[u64], x: u64) -> usize
@@ -31,17 +32,13 @@ fn read_block(r: &mut [u64], mem: &[u64], first: usize, words: u64, x: u64, b: b
     requires { ⌜ Window (frameOf (now r)) first words (length (now mem)) ⌝ }
     ensures { λ outside. ⌜ Moved outside (now (r .entry)) (now (r .exit)) (now (mem .entry)) (now (mem .entry)) x ⌝ }
 {
-    operands::read(
-        r,
-        mem,
-        first,
-        words,
-        place(b),
-        access::jk(x),
-        block(r, x),
-        1,
-        b,
-    )
+    let row = Row {
+        file: place(b),
+        reg: access::jk(x),
+        n: block(r, x),
+        by: 1,
+    };
+    operands::read(r, mem, first, words, row, b)
 }
 
 // 035, 037: the same to memory.
@@ -50,16 +47,13 @@ fn store_block(r: &[u64], mem: &mut [u64], first: usize, words: u64, x: u64, b: 
     requires { ⌜ Window (frameOf (now r)) first words (length (now mem)) ⌝ }
     ensures { λ outside. ⌜ Moved outside (now (r .entry)) (now (r .entry)) (now (mem .entry)) (now (mem .exit)) x ⌝ }
 {
-    operands::store(
-        r,
-        mem,
-        first,
-        words,
-        place(b),
-        access::jk(x),
-        block(r, x),
-        1,
-    )
+    let row = Row {
+        file: place(b),
+        reg: access::jk(x),
+        n: block(r, x),
+        by: 1,
+    };
+    operands::store(r, mem, first, words, row)
 }
 
 // 034: B registers from memory.
@@ -106,17 +100,13 @@ pub fn read_v(r: &mut [u64], mem: &[u64], first: usize, words: u64, x: u64) -> b
 {
     let n = access::vl(r);
     let by = access::a_k(r, x);
-    operands::read(
-        r,
-        mem,
-        first,
-        words,
-        access::V + access::i(x) * 64,
-        0,
+    let row = Row {
+        file: access::V + access::i(x) * 64,
+        reg: 0,
         n,
         by,
-        false,
-    )
+    };
+    operands::read(r, mem, first, words, row, false)
 }
 
 // 1770jk: Vj to memory.
@@ -127,14 +117,11 @@ pub fn store_v(r: &[u64], mem: &mut [u64], first: usize, words: u64, x: u64) -> 
 {
     let n = access::vl(r);
     let by = access::a_k(r, x);
-    operands::store(
-        r,
-        mem,
-        first,
-        words,
-        access::V + access::j(x) * 64,
-        0,
+    let row = Row {
+        file: access::V + access::j(x) * 64,
+        reg: 0,
         n,
         by,
-    )
+    };
+    operands::store(r, mem, first, words, row)
 }

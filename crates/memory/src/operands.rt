@@ -49,78 +49,67 @@ fn copy(to: &mut [u64], first: usize, from: &[u64], at: usize, n: usize, narrow:
     }
 }
 
-// How many of n words, from the first on, can be copied.
-fn straight(words: u64, reg: usize, n: usize, from: u64, by: u64) -> usize
-    requires { ⌜ (reg < 64) × (n < 128) ⌝ }
-    ensures { λ m. ⌜ m ≡ straightOf words reg n from by ⌝ }
+// n registers of the file at a place, from `reg` on, which returns to 0 past 63; and how far apart their words are.
+pub struct Row {
+    pub file: usize,
+    pub reg: usize,
+    pub n: usize,
+    pub by: u64,
+}
+
+// How many words of a row, from the first on, can be copied.
+fn straight(words: u64, row: Row, from: u64) -> usize
+    requires { ⌜ (row .reg < 64) × (row .n < 128) ⌝ }
+    ensures { λ m. ⌜ m ≡ straightOf words (row .reg) (row .n) from (row .by) ⌝ }
 {
     let w = access::word_at(from);
-    if by == 1 && reg + n <= 64 && w.0 + n as u64 <= words {
-        n - n % 16
+    if row.by == 1 && row.reg + row.n <= 64 && w.0 + row.n as u64 <= words {
+        row.n - row.n % 16
     } else {
         0
     }
 }
 
-// n registers of the file at a place, from `reg` on, from the words at A0, A0 + by, ..; whether one lies outside.
-pub fn read(
-    r: &mut [u64],
-    mem: &[u64],
-    first: usize,
-    words: u64,
-    file: usize,
-    reg: usize,
-    n: usize,
-    by: u64,
-    narrow: bool,
-) -> bool
-    requires { ⌜ (length (now r) ≡ 672) × (file + 64 ≤ 672) × (reg < 64) × (n < 128) ⌝ }
+// A row of registers from the words at A0, A0 + by, ..; whether one lies outside.
+pub fn read(r: &mut [u64], mem: &[u64], first: usize, words: u64, row: Row, narrow: bool) -> bool
+    requires { ⌜ (length (now r) ≡ 672) × (row .file + 64 ≤ 672) × (row .reg < 64) × (row .n < 128) ⌝ }
     requires { ⌜ Held first words (length (now mem)) ⌝ }
-    ensures { λ o. ⌜ ReadRow (now (r .entry)) (now (r .exit)) (now (mem .entry)) first words (ai (registersOf (now (r .entry))) 0) by file reg n narrow o ⌝ }
+    ensures { λ o. ⌜ ReadRow (now (r .entry)) (now (r .exit)) (now (mem .entry)) first words (ai (registersOf (now (r .entry))) 0) (row .by) (row .file) (row .reg) (row .n) narrow o ⌝ }
 {
     let from = access::a_0(r);
-    let whole = straight(words, reg, n, from, by);
+    let whole = straight(words, row, from);
     let w = access::word_at(from);
-    copy(r, file + reg, mem, first + w.0 as usize, whole, narrow);
+    copy(r, row.file + row.reg, mem, first + w.0 as usize, whole, narrow);
     let mut outside = false;
     let mut at = std::num::wrapping_add_u64(from, whole as u64);
     let mut e = whole;
-    while e < n {
+    while e < row.n {
         let got = get(mem, first, words, at);
-        r[file + (reg + e) % 64] = access::words::cut(got.0, narrow);
+        r[row.file + (row.reg + e) % 64] = access::words::cut(got.0, narrow);
         outside = outside | got.1;
-        at = std::num::wrapping_add_u64(at, by);
+        at = std::num::wrapping_add_u64(at, row.by);
         e += 1;
     }
     outside
 }
 
 // The same to memory.
-pub fn store(
-    r: &[u64],
-    mem: &mut [u64],
-    first: usize,
-    words: u64,
-    file: usize,
-    reg: usize,
-    n: usize,
-    by: u64,
-) -> bool
-    requires { ⌜ (length (now r) ≡ 672) × (file + 64 ≤ 672) × (reg < 64) × (n < 128) ⌝ }
+pub fn store(r: &[u64], mem: &mut [u64], first: usize, words: u64, row: Row) -> bool
+    requires { ⌜ (length (now r) ≡ 672) × (row .file + 64 ≤ 672) × (row .reg < 64) × (row .n < 128) ⌝ }
     requires { ⌜ Held first words (length (now mem)) ⌝ }
-    ensures { λ o. ⌜ StoredRow (now (r .entry)) (now (mem .entry)) (now (mem .exit)) first words (ai (registersOf (now (r .entry))) 0) by file reg n o ⌝ }
+    ensures { λ o. ⌜ StoredRow (now (r .entry)) (now (mem .entry)) (now (mem .exit)) first words (ai (registersOf (now (r .entry))) 0) (row .by) (row .file) (row .reg) (row .n) o ⌝ }
 {
     let from = access::a_0(r);
-    let whole = straight(words, reg, n, from, by);
+    let whole = straight(words, row, from);
     let w = access::word_at(from);
-    copy(mem, first + w.0 as usize, r, file + reg, whole, false);
+    copy(mem, first + w.0 as usize, r, row.file + row.reg, whole, false);
     let mut outside = false;
     let mut at = std::num::wrapping_add_u64(from, whole as u64);
     let mut e = whole;
-    while e < n {
-        let o = put(mem, first, words, at, r[file + (reg + e) % 64]);
+    while e < row.n {
+        let o = put(mem, first, words, at, r[row.file + (row.reg + e) % 64]);
         outside = outside | o;
-        at = std::num::wrapping_add_u64(at, by);
+        at = std::num::wrapping_add_u64(at, row.by);
         e += 1;
     }
     outside

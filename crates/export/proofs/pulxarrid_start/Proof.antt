@@ -1,5 +1,5 @@
 use mathlib.Core.Path.{ap}
-use Rattle.export.specs.Left.{afterStart}
+use Rattle.numbers.specs.Left.{afterStart}
 use borrow.Author.Needs.{needs}
 use Rattle.export.proofs.pulxarrid_start.Statement.{statement}
 use Rattle.export.proofs.pulxarrid_start.Tie as tie

@@ -2,7 +2,7 @@ use Prim.Native.Nat.{ℕ}
 use mathlib.Core.List.{List, [], _∷_}
 use lib.ListN.{getD}
 use Rattle.machine.specs.Call.{lastNumbers}
-use Rattle.export.proofs.Left.{refused-left, made-left}
+use Rattle.numbers.proofs.Left.{refused-left, made-left}
 use borrow.Author.Needs.{needs}
 use Rattle.export.proofs.pulxarrid_turn.Statement.{statement}
 use Rattle.export.proofs.pulxarrid_turn.Tie as tie

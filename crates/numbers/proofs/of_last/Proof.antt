@@ -1,6 +1,6 @@
 use borrow.Author.Needs.{needs}
-use Rattle.export.proofs.of_last.Statement.{statement}
-use Rattle.export.proofs.of_last.Tie as tie
+use Rattle.numbers.proofs.of_last.Statement.{statement}
+use Rattle.numbers.proofs.of_last.Tie as tie
 
 returns : tie.Need-returns
 returns c = rw (c .enum-told .given .1)

@@ -7,7 +7,7 @@ use lib.Dec.{eqb}
 use borrow.Author.Tests.{ne-eqb}
 use Rattle.machine.specs.Word.{pick}
 use Rattle.machine.specs.State.{State}
-use Rattle.export.specs.Left.{left, refused, threeOf, unlessRefused}
+use Rattle.numbers.specs.Left.{left, refused, threeOf, unlessRefused}
 
 -- `made` makes the report out of the three numbers
 module _ (three numbers : List ℕ) (e : three ≡ threeOf numbers) (made : List ℕ → List ℕ) (states : List State) (mem found : List ℕ) where

@@ -1,6 +1,6 @@
 use borrow.Author.Needs.{needs}
-use Rattle.export.proofs.of_reply.Statement.{statement}
-use Rattle.export.proofs.of_reply.Tie as tie
+use Rattle.numbers.proofs.of_reply.Statement.{statement}
+use Rattle.numbers.proofs.of_reply.Tie as tie
 
 returns : tie.Need-returns
 returns c = rw (c .before .before .o .given .1) (c .of-answer .ensures)

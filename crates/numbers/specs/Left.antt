@@ -7,8 +7,6 @@ use Rattle.machine.specs.Word.{pick}
 use Rattle.machine.specs.State.{State}
 use Rattle.machine.specs.Run.{Turned, Ended, PairEnded}
 use Rattle.machine.specs.Call.{Started, Replied, replyNumbers, endingNumbers, lastNumbers}
-use Rattle.spelling.specs.Assembling.{assembled, roomAssembled, assembledNumbers}
-use Rattle.spelling.specs.Listing.{listed, roomListed, listedNumbers}
 
 pub record Left : Type 0 where
   pub number : ℕ
@@ -63,21 +61,3 @@ abbrev pub afterPair : List ℕ → PairEnded → Left
 afterPair report c =
     let n = lastNumbers (c .last) in
     left (refused n) (c .first ∷ c .second ∷ []) (c .shared .mem ∷ unlessRefused n (kind n ∷ value n ∷ c .steps ∷ []) report ∷ [])
-
--- of an answer's numbers what a report takes: the second; where there is none it stays
-abbrev pub reported : List ℕ → List ℕ → List ℕ
-reported report (n ∷ x ∷ xs) = x ∷ []
-reported report (n ∷ []) = report
-reported report [] = report
-
--- a text assembled: the room, as found unless the number is 0, and the parcels written or the bad line
-abbrev pub afterAssemble : List ℕ → List ℕ → List ℕ → Left
-afterAssemble text room report =
-    let n = assembledNumbers (assembled text room) in
-    left (refused n) [] (pick (eqb (refused n) 0) (roomAssembled text room) room ∷ reported report n ∷ [])
-
--- parcels listed: the same, and the bytes written
-abbrev pub afterList : List ℕ → List ℕ → List ℕ → Left
-afterList parcels room report =
-    let n = listedNumbers (listed parcels room) in
-    left (refused n) [] (pick (eqb (refused n) 0) (roomListed parcels room) room ∷ reported report n ∷ [])

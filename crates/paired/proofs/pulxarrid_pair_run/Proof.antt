@@ -2,10 +2,10 @@ use Prim.Native.Nat.{ℕ}
 use mathlib.Core.List.{List, [], _∷_}
 use lib.ListN.{getD}
 use Rattle.machine.specs.Call.{lastNumbers}
-use Rattle.export.proofs.Left.{refused-left, made-left}
+use Rattle.numbers.proofs.Left.{refused-left, made-left}
 use borrow.Author.Needs.{needs}
-use Rattle.export.proofs.pulxarrid_pair_run.Statement.{statement}
-use Rattle.export.proofs.pulxarrid_pair_run.Tie as tie
+use Rattle.paired.proofs.pulxarrid_pair_run.Statement.{statement}
+use Rattle.paired.proofs.pulxarrid_pair_run.Tie as tie
 
 returns : tie.Need-returns
 returns c =
