@@ -57,6 +57,14 @@ pub struct Row {
     pub by: u64,
 }
 
+// The place of a row's register e.
+fn place(row: Row, e: usize) -> usize
+    requires { ⌜ (row .file + 64 ≤ 672) × (row .reg < 64) × (e < 128) ⌝ }
+    ensures { λ n. ⌜ (n ≡ row .file + (row .reg + e) % 64) × (n < 672) ⌝ }
+{
+    row.file + (row.reg + e) % 64
+}
+
 // How many words of a row, from the first on, can be copied.
 fn straight(words: u64, row: Row, from: u64) -> usize
     requires { ⌜ (row .reg < 64) × (row .n < 128) ⌝ }
@@ -85,7 +93,7 @@ pub fn read(r: &mut [u64], mem: &[u64], first: usize, words: u64, row: Row, narr
     let mut e = whole;
     while e < row.n {
         let got = get(mem, first, words, at);
-        r[row.file + (row.reg + e) % 64] = access::words::cut(got.0, narrow);
+        r[place(row, e)] = access::words::cut(got.0, narrow);
         outside = outside | got.1;
         at = std::num::wrapping_add_u64(at, row.by);
         e += 1;
@@ -107,7 +115,7 @@ pub fn store(r: &[u64], mem: &mut [u64], first: usize, words: u64, row: Row) -> 
     let mut at = std::num::wrapping_add_u64(from, whole as u64);
     let mut e = whole;
     while e < row.n {
-        let o = put(mem, first, words, at, r[row.file + (row.reg + e) % 64]);
+        let o = put(mem, first, words, at, r[place(row, e)]);
         outside = outside | o;
         at = std::num::wrapping_add_u64(at, row.by);
         e += 1;

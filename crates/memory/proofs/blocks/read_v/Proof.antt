@@ -9,11 +9,11 @@ read-requires : tie.Need-read-requires
 read-requires c κs =
     let vl = c .before .before .before .before .vl in
     let start = c .before .before .before .before .before .before .before .before in
-    ((start .pre .0 .0, omega (arith, c .i .ensures), omega arith, omega (arith, vl .ensures, start .pre .0 .3)), held _ _ _ _ (start .pre .1))
+    ((start .pre .0 .0, omega (arith, c .before .i .ensures), omega arith, omega (arith, vl .ensures, start .pre .0 .3)), held _ _ _ _ (start .pre .1))
 
 returns : tie.Need-returns
 returns c =
-    let the-i = c .before .before .before .i in
+    let the-i = c .before .before .before .before .i in
     let a-k = c .before .before .before .before .before .a-k in
     let vl = c .before .before .before .before .before .before .before .vl in
     let start = c .before .before .before .before .before .before .before .before .before .before .before in

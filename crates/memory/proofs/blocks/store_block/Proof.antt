@@ -8,15 +8,15 @@ use Rattle.memory.proofs.blocks.store_block.Tie as tie
 store-requires : tie.Need-store-requires
 store-requires c κs =
     let start = c .before .before .before .before .before .before in (
-      (start .pre .0 .0, block-low (start .args .b) _ (c .before .before .place .ensures), omega (arith, c .before .jk .ensures), omega (arith, c .block .ensures)),
+      (start .pre .0 .0, block-low (start .args .b) _ (c .before .before .before .place .ensures), omega (arith, c .before .before .jk .ensures), omega (arith, c .before .block .ensures)),
       held _ _ _ _ (start .pre .1),
     )
 
 returns : tie.Need-returns
 returns c =
-    let block = c .before .before .before .block in
-    let jk = c .before .before .before .before .jk in
-    let place = c .before .before .before .before .before .place in
+    let block = c .before .before .before .before .block in
+    let jk = c .before .before .before .before .before .jk in
+    let place = c .before .before .before .before .before .before .place in
     let start = c .before .before .before .before .before .before .before .before .before in
     block-stored (start .args .b) _ _ _ _ _ _ (start .pre .1) _ (start .pre .0 .1)
     (rw (place .ensures, jk .ensures, block .ensures) at (c .before .before .store .ensures))

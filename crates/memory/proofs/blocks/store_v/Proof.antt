@@ -9,11 +9,11 @@ store-requires : tie.Need-store-requires
 store-requires c κs =
     let vl = c .before .before .before .vl in
     let start = c .before .before .before .before .before .before in
-    ((start .pre .0 .0, omega (arith, c .j .ensures), omega arith, omega (arith, vl .ensures, start .pre .0 .3)), held _ _ _ _ (start .pre .1))
+    ((start .pre .0 .0, omega (arith, c .before .j .ensures), omega arith, omega (arith, vl .ensures, start .pre .0 .3)), held _ _ _ _ (start .pre .1))
 
 returns : tie.Need-returns
 returns c =
-    let the-j = c .before .before .before .j in
+    let the-j = c .before .before .before .before .j in
     let a-k = c .before .before .before .before .before .a-k in
     let vl = c .before .before .before .before .before .before .vl in
     let start = c .before .before .before .before .before .before .before .before .before in
