@@ -1,7 +1,8 @@
 /* Calls the library as a program in C does, on the memory of a case sheet from standard input.
 
      library run WORDS STEPS     one run of STEPS steps on a memory of WORDS words
-     library calls WORDS CALLS   so often a start and one step
+     library starts WORDS CALLS  so often a start and one step
+     library steps WORDS CALLS   a start, and so often one step
      library pair TURN STEPS     a pair run, its schedule changing processor after TURN steps
 
    It prints how many steps were taken. Or on a text of CAL from standard input:
@@ -95,12 +96,14 @@ static uint64_t *memory_of_sheet(size_t words)
     return memory;
 }
 
-static uint64_t calls(uint64_t *memory, size_t words, uint64_t count)
+/* One step a call; before each, or before the first alone, a start. */
+static uint64_t calls(uint64_t *memory, size_t words, uint64_t count, int anew)
 {
     static State state;
     uint64_t steps = 0;
     for (uint64_t n = 0; n < count; n++) {
-        start(state, memory, words, 0, 0);
+        if (anew || !n)
+            start(state, memory, words, 0, 0);
         steps += step(state, memory, words);
     }
     return steps;
@@ -159,8 +162,9 @@ int main(int argc, char **argv)
         steps = pairs(memory_of_sheet(4096), 4096, number, count);
     } else {
         uint64_t *memory = memory_of_sheet(number);
-        if (!strcmp(argv[1], "calls")) {
-            steps = calls(memory, number, count);
+        int starts = !strcmp(argv[1], "starts");
+        if (starts || !strcmp(argv[1], "steps")) {
+            steps = calls(memory, number, count, starts);
         } else {
             static State state;
             start(state, memory, number, 0, 0);

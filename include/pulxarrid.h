@@ -1,7 +1,7 @@
 /* The integer half of a CRAY X-MP: a start, a step, a turn, a run and a pair
  * run; and its assembly language CAL: a text assembled, parcels listed.
  *
- * Link with libexport.a. It calls memcpy and memset, allocates nothing, keeps
+ * Link with libpulxarrid.a. It calls memcpy and memset, allocates nothing, keeps
  * nothing between calls and may be called from several threads at once, each
  * with its own processors and memory. A call on processors takes at most 1 KB of
  * stack, a text assembled or parcels listed at most 6 KB.
