@@ -44,9 +44,9 @@ module _ (w : Work) (r r′ mem mem′ : List ℕ) (p x : ℕ) where
   two n m e g f d = executes (Two n) e f (rw g d)
 
 -- a parcel that is not held
-pub unheld : (r mem : List ℕ) (p x : ℕ) → codeOf (user (frameOf r)) x ≡ None → Executes NotHeld r r mem mem p x
+pub not-held : (r mem : List ℕ) (p x : ℕ) → codeOf (user (frameOf r)) x ≡ None → Executes NotHeld r r mem mem p x
 unfolding decoded doneWith
-unheld r mem p x e = executes NotHeld r r mem mem p x None e refl refl
+not-held r mem p x e = executes NotHeld r r mem mem p x None e refl refl
 
 -- a second parcel that lies outside
 pub lost : (w : Work) (r mem : List ℕ) (p x : ℕ) (n : Instr) → codeOf (user (frameOf r)) x ≡ Two n → fetchOf (frameOf r) mem (onward p 1) ≡ Outside

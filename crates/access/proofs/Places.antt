@@ -1,8 +1,8 @@
 -- Places: what stands in a part of a processor's words, and what a store at a place makes of it, once for each kind of register.
 -- Assumes nothing.
-use Prim.Native.Nat.{ℕ, zero, suc, _+_, _*_, _<_, _≤_}
+use Prim.Native.Nat.{ℕ, zero, suc, _+_, _-_, _*_, _<_, _≤_}
 use mathlib.Core.Path.{_≡_, refl, sym, _∙_, ap}
-use mathlib.Core.Logic.{_≢_, ⊎-elim}
+use mathlib.Core.Logic.{_≢_, _⊎_, inl, inr, ⊎-elim}
 use mathlib.Core.Bool.{Bool, true, false}
 use mathlib.Core.List.{List}
 use native.Mathlib.Omega.{arith}
@@ -22,7 +22,7 @@ pub part-at : (at n : ℕ) (w : List ℕ) (i : ℕ) → i < n → getD (part at 
 unfolding part
 part-at at n w i h = getD-take n (drop at w) i 0 h ∙ getD-drop at w i 0
 
--- a store at place i of a part, before it, and past it
+-- a store at place i of a part, before it, and outside it
 part-in : (at n : ℕ) (w : List ℕ) (i y : ℕ) → i < n → part at n (set w (at + i) y) ≡ set (part at n w) i y
 unfolding part
 part-in at n w i y h = ap (take n) (drop-set-add at w i y) ∙ take-set-lt n (drop at w) i y h
@@ -31,9 +31,14 @@ pub part-after : (at n : ℕ) (w : List ℕ) (i y : ℕ) → i < at → part at 
 unfolding part
 part-after at n w i y h = ap (take n) (drop-set-lt at w i y h)
 
-part-before : (at n : ℕ) (w : List ℕ) (i k y : ℕ) → i ≡ at + k → n ≤ k → part at n (set w i y) ≡ part at n w
+kept : (w : List ℕ) (k y at n : ℕ) → (k < at) ⊎ (at + n ≤ k) → part at n (set w k y) ≡ part at n w
 unfolding part
-part-before at n w i k y e h = rw e (ap (take n) (drop-set-add at w k y) ∙ take-set-le n (drop at w) k y h)
+kept w k y at n h = ⊎-elim (part-after at n w k y) past h
+  where
+    past : at + n ≤ k → part at n (set w k y) ≡ part at n w
+    past l =
+        let e : k ≡ at + (k - at) = omega arith in
+        rw e (ap (take n) (drop-set-add at w (k - at) y) ∙ take-set-le n (drop at w) (k - at) y (omega arith))
 
 other : (w : List ℕ) (i j y : ℕ) → j ≢ i → getD (set w i y) j 0 ≡ getD w j 0
 other w i j y h = getD-set-other w i j y 0 h
@@ -70,105 +75,67 @@ low-kept : (w : List ℕ) (i y : ℕ) → 16 ≤ i → Low w (set w i y)
 low-kept w i y h =
     (other w i 1 y (omega arith), other w i 2 y (omega arith), other w i 3 y (omega arith), other w i 9 y (omega arith), other w i 12 y (omega arith))
 
+-- what a store from place 16 on makes of the five files is all that it makes
+files : Registers → (a s b t v : List ℕ) → Registers
+files r a s b t v =
+    record { a = a; s = s; b = b; t = t; v = v; xa = r .xa; vl = r .vl; vm = r .vm; ior = r .ior; bdm = r .bdm }
+
+to-files : (w : List ℕ) (k y : ℕ) (a s b t v : List ℕ) → 16 ≤ k → part 16 8 (set w k y) ≡ a → part 24 8 (set w k y) ≡ s
+    → part 32 64 (set w k y) ≡ b → part 96 64 (set w k y) ≡ t → part 160 512 (set w k y) ≡ v
+    → registersOf (set w k y) ≡ files (registersOf w) a s b t v
+unfolding registersOf files
+to-files w k y a s b t v h in-a in-s in-b in-t in-v =
+    let l = low-kept w k y h in rw (in-a, in-s, in-b, in-t, in-v, l .0, l .1, l .2, l .3, l .4)
+
 -- one law for each kind of register
 module _ (w : List ℕ) (i y : ℕ) where
   pub to-a : i < 8 → Puts w (set w (16 + i) y) (ToA i y)
-  unfolding registersOf apply
+  unfolding registersOf apply files
   to-a h =
-      let l = low-kept w (16 + i) y (omega arith) in
+      let stays = kept w (16 + i) y in
       record {
         frame = frame-kept w (16 + i) y (omega arith);
-        registers = rw (
-          part-in 16 8 w i y h,
-          part-after 24 8 w (16 + i) y (omega arith),
-          part-after 32 64 w (16 + i) y (omega arith),
-          part-after 96 64 w (16 + i) y (omega arith),
-          part-after 160 512 w (16 + i) y (omega arith),
-          l .0,
-          l .1,
-          l .2,
-          l .3,
-          l .4,
-        );
+        registers = to-files w (16 + i) y _ _ _ _ _ (omega arith) (part-in 16 8 w i y h) (stays 24 8 (inl (omega arith)))
+        (stays 32 64 (inl (omega arith))) (stays 96 64 (inl (omega arith))) (stays 160 512 (inl (omega arith)));
       }
 
   pub to-s : i < 8 → Puts w (set w (24 + i) y) (ToS i y)
-  unfolding registersOf apply
+  unfolding registersOf apply files
   to-s h =
-      let l = low-kept w (24 + i) y (omega arith) in
+      let stays = kept w (24 + i) y in
       record {
         frame = frame-kept w (24 + i) y (omega arith);
-        registers = rw (
-          part-before 16 8 w (24 + i) (8 + i) y (omega arith) (omega arith),
-          part-in 24 8 w i y h,
-          part-after 32 64 w (24 + i) y (omega arith),
-          part-after 96 64 w (24 + i) y (omega arith),
-          part-after 160 512 w (24 + i) y (omega arith),
-          l .0,
-          l .1,
-          l .2,
-          l .3,
-          l .4,
-        );
+        registers = to-files w (24 + i) y _ _ _ _ _ (omega arith) (stays 16 8 (inr (omega arith))) (part-in 24 8 w i y h)
+        (stays 32 64 (inl (omega arith))) (stays 96 64 (inl (omega arith))) (stays 160 512 (inl (omega arith)));
       }
 
   pub to-b : i < 64 → Puts w (set w (32 + i) y) (ToB i y)
-  unfolding registersOf apply
+  unfolding registersOf apply files
   to-b h =
-      let l = low-kept w (32 + i) y (omega arith) in
+      let stays = kept w (32 + i) y in
       record {
         frame = frame-kept w (32 + i) y (omega arith);
-        registers = rw (
-          part-before 16 8 w (32 + i) (16 + i) y (omega arith) (omega arith),
-          part-before 24 8 w (32 + i) (8 + i) y (omega arith) (omega arith),
-          part-in 32 64 w i y h,
-          part-after 96 64 w (32 + i) y (omega arith),
-          part-after 160 512 w (32 + i) y (omega arith),
-          l .0,
-          l .1,
-          l .2,
-          l .3,
-          l .4,
-        );
+        registers = to-files w (32 + i) y _ _ _ _ _ (omega arith) (stays 16 8 (inr (omega arith))) (stays 24 8 (inr (omega arith)))
+        (part-in 32 64 w i y h) (stays 96 64 (inl (omega arith))) (stays 160 512 (inl (omega arith)));
       }
 
   pub to-t : i < 64 → Puts w (set w (96 + i) y) (ToT i y)
-  unfolding registersOf apply
+  unfolding registersOf apply files
   to-t h =
-      let l = low-kept w (96 + i) y (omega arith) in
+      let stays = kept w (96 + i) y in
       record {
         frame = frame-kept w (96 + i) y (omega arith);
-        registers = rw (
-          part-before 16 8 w (96 + i) (80 + i) y (omega arith) (omega arith),
-          part-before 24 8 w (96 + i) (72 + i) y (omega arith) (omega arith),
-          part-before 32 64 w (96 + i) (64 + i) y (omega arith) (omega arith),
-          part-in 96 64 w i y h,
-          part-after 160 512 w (96 + i) y (omega arith),
-          l .0,
-          l .1,
-          l .2,
-          l .3,
-          l .4,
-        );
+        registers = to-files w (96 + i) y _ _ _ _ _ (omega arith) (stays 16 8 (inr (omega arith))) (stays 24 8 (inr (omega arith)))
+        (stays 32 64 (inr (omega arith))) (part-in 96 64 w i y h) (stays 160 512 (inl (omega arith)));
       }
 
   -- a place of the V registers
   to-v : i < 512 → registersOf (set w (160 + i) y) ≡ withV (registersOf w) (set (registersOf w .v) i y)
-  unfolding registersOf
+  unfolding registersOf files
   to-v h =
-      let l = low-kept w (160 + i) y (omega arith) in
-      rw (
-        part-before 16 8 w (160 + i) (144 + i) y (omega arith) (omega arith),
-        part-before 24 8 w (160 + i) (136 + i) y (omega arith) (omega arith),
-        part-before 32 64 w (160 + i) (128 + i) y (omega arith) (omega arith),
-        part-before 96 64 w (160 + i) (64 + i) y (omega arith) (omega arith),
-        part-in 160 512 w i y h,
-        l .0,
-        l .1,
-        l .2,
-        l .3,
-        l .4,
-      )
+      let stays = kept w (160 + i) y in
+      to-files w (160 + i) y _ _ _ _ _ (omega arith) (stays 16 8 (inr (omega arith))) (stays 24 8 (inr (omega arith)))
+      (stays 32 64 (inr (omega arith))) (stays 96 64 (inr (omega arith))) (part-in 160 512 w i y h)
 
 -- an element
 pub to-element : (w : List ℕ) (i e y : ℕ) → i < 8 → e < 64 → Puts w (set w (160 + i * 64 + e) y) (ToElement i e y)

@@ -16,7 +16,8 @@ use Rattle.machine.specs.State.{Frame, Registers, State, Shared, user, apply}
 use Rattle.machine.specs.Memory.{dataField, anyOutside, fetchOf}
 use Rattle.machine.specs.Act.{Act, Does, Goes, Reads, Writes, LeavesNormally, LeavesByError, act}
 use Rattle.machine.specs.Codes.{Code, None, One, Two, codeOf}
-use Rattle.machine.specs.Work.{Present, NoParcel, Unheld, Has, withParcel, decoded, presentOf, Done, done, outside, ranged, perform, noParcel, statusOf, doneWith, workOf}
+use Rattle.machine.specs.Work as present
+use Rattle.machine.specs.Work.{Present, NoParcel, Has, withParcel, decoded, presentOf, Done, done, outside, ranged, perform, noParcel, statusOf, doneWith, workOf}
 use Rattle.machine.specs.Step.{exchange, stepped, finish, finishOf, stepOf}
 use Rattle.laws.proofs.Laws.{work-all}
 use Rattle.laws.proofs.Answers.{distinct}
@@ -73,7 +74,7 @@ module _ (fr : Frame) (r : Registers) (P : ℕ → Type 0) (len : ℕ) (own : (w
   done-same : (p : ℕ) (o : Present) → Same P (doneWith fr r p sh o) (doneWith fr r p sh' o)
   unfolding doneWith
   done-same p NoParcel = idle-same (noParcel (user fr))
-  done-same p Unheld = idle-same NotHeld
+  done-same p present.NotHeld = idle-same NotHeld
   done-same p (Has n x m parcels) = perform-same parcels (act r (statusOf fr r) x m (onward p parcels) n)
 
   pub work-same : (p : ℕ) → Same P (workOf fr r p sh) (workOf fr r p sh')

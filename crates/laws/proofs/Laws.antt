@@ -26,7 +26,7 @@ use Rattle.laws.proofs.Acts.{PutOk, ActOk, length-bounds, act-ok}
 -- What holds of all that an instruction performs, of a parcel not held and of a parcel outside, holds of the work of every step.
 module _ (fr : Frame) (r : Registers) (p : ℕ) (sh : Shared) (Q : Done → Type 0)
     (acts : (n : Instr) (x m parcels : ℕ) → m < 2 ^ 16 → parcels ≤ 2 → Q (perform fr r parcels sh (act r (statusOf fr r) x m (onward p parcels) n)))
-    (unheld : Q (done NotHeld r sh))
+    (not-held : Q (done NotHeld r sh))
     (lost : Q (done (noParcel (user fr)) r sh)) where
   -- a parcel that is fetched has 16 bits
   fetched-all : (q : ℕ) (f : ℕ → Present) → ((m : ℕ) → m < 2 ^ 16 → Q (doneWith fr r p sh (f m)))
@@ -40,7 +40,7 @@ module _ (fr : Frame) (r : Registers) (p : ℕ) (sh : Shared) (Q : Done → Type
 
   decoded-all : (x : ℕ) (c : Code) → Q (doneWith fr r p sh (decoded fr (sh .mem) p x c))
   unfolding decoded doneWith
-  decoded-all x None = unheld
+  decoded-all x None = not-held
   decoded-all x (One n) = acts n x 0 1 (omega arith) (omega arith)
   decoded-all x (Two n) = fetched-all (onward p 1) (λ m. Has n x m 2) (λ m l. acts n x m 2 l (omega arith))
 

@@ -2,7 +2,7 @@ use mathlib.Core.Logic.{⊎-elim}
 use borrow.Author.Tests.{ne-eqb}
 use Rattle.machine.specs.Act.{AFromS, AFromVL, act}
 use Rattle.machine.specs.Codes.{codeOf}
-use Rattle.access.proofs.Leaf.{puts, unheld}
+use Rattle.access.proofs.Leaf.{puts, not-held}
 use borrow.Author.Needs.{needs}
 use Rattle.address.proofs.from_s_or_vl.Statement.{statement}
 use Rattle.address.proofs.from_s_or_vl.Tie as tie
@@ -17,7 +17,7 @@ returns-2 c = λ p mem. puts AFromVL _ _ _ _ mem p _ (c .before .before .put-a2 
 
 returns-3 : tie.Need-returns-3
 unfolding codeOf
-returns-3 c = λ p mem. unheld _ mem p _ (rw (c .before .before .before .before .before .pre .1, ← c .before .before .before .k .ensures, ← c .before .j .ensures)
+returns-3 c = λ p mem. not-held _ mem p _ (rw (c .before .before .before .before .before .pre .1, ← c .before .before .before .k .ensures, ← c .before .j .ensures)
     (simp (ne-eqb _ _ (c .before .before .if1 .left)) (⊎-elim (λ w. rw (w .0 .taken, w .1 .left)) (λ w. simp (ne-eqb _ _ (w .left))) (c .if2 .came))))
 
 pub from-s-or-vl-spec : {M : Type 1} → statement M

@@ -3,7 +3,7 @@ use Prim.Native.Nat.{_≤_}
 use lib.ListN.{List·getD-eq-default}
 use Rattle.machine.specs.Act.{AOnes, AParity, act}
 use Rattle.machine.specs.Codes.{codeOf}
-use Rattle.access.proofs.Leaf.{puts, unheld}
+use Rattle.access.proofs.Leaf.{puts, not-held}
 use borrow.Author.Needs.{needs}
 use Rattle.address.proofs.ones.Statement.{statement}
 use Rattle.address.proofs.ones.Tie as tie
@@ -20,7 +20,7 @@ returns-3 : tie.Need-returns-3
 unfolding codeOf
 returns-3 c = λ p mem.
     let h : 2 ≤ c .before .k .result = omega (arith, c .match .rest) in
-    unheld _ mem p _ (rw (c .before .before .before .pre .1, ← c .before .k .ensures, List·getD-eq-default _ _ h))
+    not-held _ mem p _ (rw (c .before .before .before .pre .1, ← c .before .k .ensures, List·getD-eq-default _ _ h))
 
 pub ones-spec : {M : Type 1} → statement M
 ones-spec =

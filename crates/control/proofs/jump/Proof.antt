@@ -3,7 +3,7 @@ use borrow.Author.Tests.{lt-ltb, le-ltb}
 use Rattle.machine.specs.Act.{Jump, act}
 use Rattle.machine.specs.Codes.{codeOf}
 use Rattle.access.proofs.Windows.{code-inside, second, second-narrow}
-use Rattle.access.proofs.Leaf.{goes-two, puts-nothing, unheld, lost}
+use Rattle.access.proofs.Leaf.{goes-two, puts-nothing, not-held, lost}
 use borrow.Author.Needs.{needs}
 use Rattle.control.proofs.jump.Statement.{statement}
 use Rattle.control.proofs.jump.Tie as tie
@@ -12,7 +12,7 @@ returns : tie.Need-returns
 unfolding codeOf
 returns c =
     let start = c .before .before .before .before in
-    unheld _ _ _ _ (rw (start .pre .0 .1, ← c .before .i .ensures, le-ltb _ _ (c .if1 .taken)))
+    not-held _ _ _ _ (rw (start .pre .0 .1, ← c .before .i .ensures, le-ltb _ _ (c .if1 .taken)))
 
 fetch-requires : tie.Need-fetch-requires
 fetch-requires c κs =

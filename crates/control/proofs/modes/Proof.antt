@@ -3,7 +3,7 @@ use mathlib.Core.Logic.{inl, inr}
 use borrow.Author.Tests.{ne-eqb}
 use Rattle.machine.specs.Act.{Pass, SetVL, SetIOR, ClearIOR, ClearBDM, SetBDM, act}
 use Rattle.machine.specs.Codes.{codeOf, code002}
-use Rattle.access.proofs.Leaf.{puts, puts-nothing, unheld}
+use Rattle.access.proofs.Leaf.{puts, puts-nothing, not-held}
 use Rattle.control.proofs.Laws.{no-mode}
 use borrow.Author.Needs.{needs}
 use Rattle.control.proofs.modes.Statement.{statement}
@@ -13,7 +13,7 @@ returns : tie.Need-returns
 unfolding codeOf code002
 returns c =
     let start = c .before .before .before in
-    λ p mem. unheld _ mem p _ (rw (start .pre .1, ← c .before .j .ensures, ne-eqb _ _ (c .if1 .taken)))
+    λ p mem. not-held _ mem p _ (rw (start .pre .1, ← c .before .j .ensures, ne-eqb _ _ (c .if1 .taken)))
 
 put-control-requires : tie.Need-put-control-requires
 put-control-requires c κs =
@@ -39,7 +39,7 @@ returns-3 c =
     let if1 = c .before .before .before .before .if1 in
     let the-j = c .before .before .before .before .before .j in
     let start = c .before .before .before .before .before .before .before in
-    λ p mem. unheld _ mem p _ (rw (start .pre .1, ← the-j .ensures, if1 .left, ← the-i .ensures, ne-eqb _ _ (c .before .before .if2 .left), ← c .before .k .ensures, ne-eqb _ _ (c .if3 .taken)))
+    λ p mem. not-held _ mem p _ (rw (start .pre .1, ← the-j .ensures, if1 .left, ← the-i .ensures, ne-eqb _ _ (c .before .before .if2 .left), ← c .before .k .ensures, ne-eqb _ _ (c .if3 .taken)))
 
 put-control-requires-2 : tie.Need-put-control-requires-2
 put-control-requires-2 c κs =
@@ -126,7 +126,7 @@ returns-9 c =
     let if1 = c .before .before .before .before .before .if1 in
     let the-j = c .before .before .before .before .before .before .j in
     let start = c .before .before .before .before .before .before .before .before in
-    λ p mem. unheld _ mem p _ (rw (start .pre .1, ← the-j .ensures, if1 .left, ← the-i .ensures, ne-eqb _ _ (if2 .left), ← c .before .before .k .ensures, c .before .if3 .left)
+    λ p mem. not-held _ mem p _ (rw (start .pre .1, ← the-j .ensures, if1 .left, ← the-i .ensures, ne-eqb _ _ (if2 .left), ← c .before .before .k .ensures, c .before .if3 .left)
     (no-mode _ (c .match .rest .0 .0 .0 .0 .1) (c .match .rest .0 .0 .0 .1) (c .match .rest .0 .0 .1) (c .match .rest .0 .1) (c .match .rest .1)))
 
 pub modes-spec : {M : Type 1} → statement M

@@ -3,7 +3,7 @@ use mathlib.Core.Logic.{inl, inr}
 use borrow.Author.Tests.{ne-eqb}
 use Rattle.machine.specs.Act.{Pass, SetXA, act}
 use Rattle.machine.specs.Codes.{codeOf, code001}
-use Rattle.access.proofs.Leaf.{puts, puts-nothing, unheld}
+use Rattle.access.proofs.Leaf.{puts, puts-nothing, not-held}
 use borrow.Author.Needs.{needs}
 use Rattle.control.proofs.privileged.Statement.{statement}
 use Rattle.control.proofs.privileged.Tie as tie
@@ -23,7 +23,7 @@ returns-2 c =
     let the-i = c .before .before .before .i in
     let is-user = c .before .before .before .before .is-user in
     let start = c .before .before .before .before .before .before .before in
-    λ p mem. unheld _ mem p _
+    λ p mem. not-held _ mem p _
     (rw (start .pre .1, ← the-i .ensures, ne-eqb _ _ (c .before .before .if1 .taken), the-i .ensures, ← is-user .ensures, ← c .before .passes .ensures, c .if2 .left))
 
 returns-3 : tie.Need-returns-3
@@ -31,7 +31,7 @@ unfolding codeOf code001
 returns-3 c =
     let the-i = c .before .before .before .i in
     let start = c .before .before .before .before .before .before .before in
-    λ p mem. unheld _ mem p _ (rw (start .pre .1, ← the-i .ensures, c .before .before .if1 .left, ← c .before .k .ensures, ne-eqb _ _ (c .if3 .taken)))
+    λ p mem. not-held _ mem p _ (rw (start .pre .1, ← the-i .ensures, c .before .before .if1 .left, ← c .before .k .ensures, ne-eqb _ _ (c .if3 .taken)))
 
 returns-4 : tie.Need-returns-4
 unfolding codeOf code001 act

@@ -3,7 +3,7 @@ use mathlib.Core.Logic.{⊎-elim, inl, inr}
 use borrow.Author.Tests.{ne-eqb}
 use Rattle.machine.specs.Act.{VMFromS, act}
 use Rattle.machine.specs.Codes.{codeOf}
-use Rattle.access.proofs.Leaf.{puts, unheld}
+use Rattle.access.proofs.Leaf.{puts, not-held}
 use borrow.Author.Needs.{needs}
 use Rattle.control.proofs.set_mask.Statement.{statement}
 use Rattle.control.proofs.set_mask.Tie as tie
@@ -28,7 +28,7 @@ returns-2 : tie.Need-returns-2
 unfolding codeOf
 returns-2 c =
     let start = c .before .before .before in
-    λ p mem. unheld _ mem p _ (rw (start .pre .1, ← c .before .i .ensures)
+    λ p mem. not-held _ mem p _ (rw (start .pre .1, ← c .before .i .ensures)
     (⊎-elim (λ w. rw (w .0 .taken, ← w .1 .ensures, w .2 .left)) (λ w. simp (ne-eqb _ _ (w .left))) (c .if1 .came)))
 
 pub set-mask-spec : {M : Type 1} → statement M

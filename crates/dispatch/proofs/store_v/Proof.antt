@@ -1,6 +1,6 @@
 use borrow.Author.Tests.{ne-eqb}
 use Rattle.machine.specs.Codes.{codeOf}
-use Rattle.access.proofs.Leaf.{unheld}
+use Rattle.access.proofs.Leaf.{not-held}
 use borrow.Author.Needs.{needs}
 use Rattle.dispatch.proofs.store_v.Statement.{statement}
 use Rattle.dispatch.proofs.store_v.Tie as tie
@@ -9,7 +9,7 @@ returns : tie.Need-returns
 unfolding codeOf
 returns c =
     let start = c .before .before .before .before in
-    λ p. unheld _ _ p _ (rw (start .pre .1, ← c .before .i .ensures, ne-eqb _ _ (c .if1 .taken)))
+    λ p. not-held _ _ p _ (rw (start .pre .1, ← c .before .i .ensures, ne-eqb _ _ (c .if1 .taken)))
 
 returns-2 : tie.Need-returns-2
 returns-2 c =

@@ -4,7 +4,7 @@ use mathlib.Core.List.{[], _∷_}
 use mathlib.Core.Path.{_≡_, refl}
 use Rattle.machine.specs.Act.{OnesV, ParityV}
 use Rattle.machine.specs.Codes.{One, None, nth, codeOf}
-use Rattle.access.proofs.Leaf.{unheld}
+use Rattle.access.proofs.Leaf.{not-held}
 use borrow.Author.Needs.{needs}
 use Rattle.vector.proofs.count.Statement.{statement}
 use Rattle.vector.proofs.count.Tie as tie
@@ -20,7 +20,7 @@ returns-3 : tie.Need-returns-3
 unfolding codeOf
 returns-3 c =
     let start = c .before .before .before in
-    λ p mem. unheld _ mem p _ (rw (start .pre .1, ← c .before .k .ensures, none-174 (c .before .k .result) (c .match .rest .0 .1) (c .match .rest .1)))
+    λ p mem. not-held _ mem p _ (rw (start .pre .1, ← c .before .k .ensures, none-174 (c .before .k .result) (c .match .rest .0 .1) (c .match .rest .1)))
 
 pub count-spec : {M : Type 1} → statement M
 count-spec =

@@ -4,7 +4,7 @@ use native.Mathlib.Omega.{arith}
 use Rattle.machine.specs.Parcel.{jOf, kOf}
 use Rattle.machine.specs.Act.{SFromVM, Status, act}
 use Rattle.machine.specs.Codes.{codeOf}
-use Rattle.access.proofs.Leaf.{puts, unheld}
+use Rattle.access.proofs.Leaf.{puts, not-held}
 use Rattle.scalar.proofs.Control.{beyond}
 use borrow.Author.Needs.{needs}
 use Rattle.scalar.proofs.transmit.read_control.Statement.{statement}
@@ -39,7 +39,7 @@ unfolding codeOf
 returns-3 c =
     let start = c .before .before .before in
     let l : 2 ≤ jOf (start .args .x) * 8 + kOf (start .args .x) = omega (arith, c .before .jk .ensures, c .match .rest) in
-    λ p mem. unheld _ mem p _ (rw (start .pre .0 .1) (beyond _ _ l))
+    λ p mem. not-held _ mem p _ (rw (start .pre .0 .1) (beyond _ _ l))
 
 pub read-control-spec : {M : Type 1} → statement M
 read-control-spec =
