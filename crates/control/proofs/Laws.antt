@@ -34,9 +34,17 @@ no-digits x = go (eqb (iOf x) 0) (eqb (jOf x) 0) (eqb (kOf x) 0) refl refl refl
     go true false u d e f = ne-eqb (x % 512) 0 (λ z. eqb-false (jOf x) 0 e (omega arith))
     go true true false d e f = ne-eqb (x % 512) 0 (λ z. eqb-false (kOf x) 0 f (omega arith))
 
--- the codes of 002i00 that are not held
+-- 002i00 with i from 1 on: the mode that i names, or none
+abbrev modes : List Code
+modes = None ∷ None ∷ None ∷ One SetIOR ∷ One ClearIOR ∷ One ClearBDM ∷ One SetBDM ∷ One Pass ∷ []
+
+pub mode : (b : Bool) (x len i k : ℕ) → (len ≡ 672) × (x / 512 ≡ 0o002) × (jOf x ≡ 0) × (kOf x ≡ 0) × (0 < iOf x) → i ≡ iOf x
+    → i ≡ k → codeOf b x ≡ nth modes k
+unfolding codeOf code002
+mode b x len i k h e m = rw (h .1, h .2, h .3, ne-eqb (iOf x) 0 (λ z. omega (arith, h .4)), ← e, m)
+
 pub no-mode : (i : ℕ) → (i ≡ 3 → ⊥) → (i ≡ 4 → ⊥) → (i ≡ 5 → ⊥) → (i ≡ 6 → ⊥) → (i ≡ 7 → ⊥)
-    → nth (None ∷ None ∷ None ∷ One SetIOR ∷ One ClearIOR ∷ One ClearBDM ∷ One SetBDM ∷ One Pass ∷ []) i ≡ None
+    → nth modes i ≡ None
 no-mode zero a b c d e = refl
 no-mode (suc zero) a b c d e = refl
 no-mode (suc (suc zero)) a b c d e = refl

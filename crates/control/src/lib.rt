@@ -87,7 +87,22 @@ pub fn privileged(r: &mut [u64], x: u64) -> Work
     put_control(r, access::XA, access::a_j(r, x) / 16 % 256)
 }
 
-// 00200k: VL from Ak. 002300 to 002600: IOR set and cleared, BDM cleared and set. 002700 passes.
+// 002300 to 002600: IOR set and cleared, BDM cleared and set. 002700 passes.
+fn set_mode(r: &mut [u64], x: u64) -> Work
+    requires { ⌜ (length (now r) ≡ 672) × (x / 512 ≡ 0o002) × (jOf x ≡ 0) × (kOf x ≡ 0) × (0 < iOf x) ⌝ }
+    ensures { λ w. ⌜ Alone w (now (r .entry)) (now (r .exit)) x ⌝ }
+{
+    match access::i(x) {
+        3 => put_control(r, access::IOR, 1),
+        4 => put_control(r, access::IOR, 0),
+        5 => put_control(r, access::BDM, 0),
+        6 => put_control(r, access::BDM, 1),
+        7 => Work::PastOne,
+        _ => Work::NotHeld,
+    }
+}
+
+// 00200k: VL from Ak. 002i00: the modes.
 pub fn modes(r: &mut [u64], x: u64) -> Work
     requires { ⌜ (length (now r) ≡ 672) × (x / 512 ≡ 0o002) ⌝ }
     ensures { λ w. ⌜ Alone w (now (r .entry)) (now (r .exit)) x ⌝ }
@@ -102,14 +117,7 @@ pub fn modes(r: &mut [u64], x: u64) -> Work
     if access::k(x) != 0 {
         return Work::NotHeld;
     }
-    match i {
-        3 => put_control(r, access::IOR, 1),
-        4 => put_control(r, access::IOR, 0),
-        5 => put_control(r, access::BDM, 0),
-        6 => put_control(r, access::BDM, 1),
-        7 => Work::PastOne,
-        _ => Work::NotHeld,
-    }
+    set_mode(r, x)
 }
 
 // 0030j0: VM from Sj.

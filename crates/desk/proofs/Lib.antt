@@ -1,3 +1,4 @@
 pub mod Most
 pub mod Texts
 pub mod Columns
+pub mod Unique

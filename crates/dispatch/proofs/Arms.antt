@@ -5,6 +5,7 @@ use mathlib.Core.Bool.{Bool, true, false, _||_, not}
 use mathlib.Core.List.{List, [], _∷_}
 use native.Mathlib.Omega.{arith}
 use lib.Dec.{eqb, leb}
+use lib.ListN.{length}
 use borrow.Author.Tests.{eqb-true, ne-eqb, le-leb}
 use Rattle.machine.specs.declared.Reach.{Reach}
 use Rattle.machine.specs.declared.Fetched.the-variants.{Parcel, Outside}
@@ -36,6 +37,11 @@ module _ (x n k : ℕ) (l : x < 2 ^ 16) (e : n ≡ armOf (x / 512)) (h : n ≡ k
 
   pub group : ((c : ℕ) → says k c ≡ eqb (c / 8) (k / 8)) → x / 512 / 8 ≡ k / 8
   group s = eqb-true (x / 512 / 8) (k / 8) (sym (s (x / 512)) ∙ arm-says)
+
+-- what the function of a code with an arm of its own asks
+pub alone : {r : List ℕ} {f : Reach} {len x n k : ℕ} → Ready r f len → x < 2 ^ 16 → n ≡ armOf (x / 512) → n ≡ k
+    → ((c : ℕ) → says k c ≡ eqb c k) → (length r ≡ 672) × (x / 512 ≡ k)
+alone {r} {f} {len} {x} {n} {k} ready l e h s = (ready .long, own x n k l e h s)
 
 -- no code has an arm that names no instruction, but 000
 gap-all : every (λ c. not (nothingAt (armOf c)) || eqb (armOf c) 0) 128 ≡ true

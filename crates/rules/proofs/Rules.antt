@@ -1,6 +1,6 @@
--- Document 01's table "Proved of the rules", a theorem a row. Assumes nothing.
+-- What a reader of docs/MACHINE.md, 2 to 8, would ask of the rules first, a theorem each. Assumes nothing.
 use Prim.Native.Nat.{ℕ, _+_, _-_, _*_, _^_, _<_}
-use mathlib.Core.Path.{_≡_}
+use mathlib.Core.Path.{_≡_, ap}
 use mathlib.Core.List.{List}
 use native.Mathlib.Nat.{mul-assoc, mul-div-cancel, mul-mod-left, div-eq-of-lt}
 use native.Mathlib.Omega.{arith}
@@ -8,11 +8,11 @@ use lib.ListN.{set}
 use lib.Pow.{pow-pos, low}
 use lib.Count.{leadingZeros, ones-ones}
 use Rattle.machine.specs.declared.Fetched.the-variants.{Parcel}
-use Rattle.machine.specs.Word.{sum24, difference24, product24, shiftRight, shiftLeftPair, onesRight, parity, lengthOf}
+use Rattle.machine.specs.Word.{sum24, difference24, product24, shiftRight, shiftLeftPair, shiftRightPair, onesRight, parity, lengthOf}
 use Rattle.machine.specs.Parcel.{gOf, hOf, iOf, jOf, kOf, jkOf, onward}
-use Rattle.machine.specs.State.{Frame, Registers, sharing, user, aj, ak, si, sj, apply, withA, withS, control}
+use Rattle.machine.specs.State.{Frame, Registers, sharing, user, aj, ak, si, sj, el, ToV, apply, withA, withS, control}
 use Rattle.machine.specs.Memory.{fetchOf}
-use Rattle.machine.specs.Act.{act}
+use Rattle.machine.specs.Act.{before, act}
 use Rattle.machine.specs.Codes.{codeOf, code002}
 use Rattle.machine.specs.Work.{decoded, Done, done, past, perform, doneWith}
 
@@ -126,6 +126,22 @@ module _ (fr : Frame) (r : Registers) (p : ℕ) (mem : List ℕ) (i : ℕ) (is :
   right-053i00 l =
       let d = digits 0 5 3 i 0 0 (omega arith) is (omega arith) (omega arith) in
       rw (d .g-is, d .h-is, d .i-is, d .jk-is, div-eq-of-lt l)
+
+  -- 055i00: the same into Si itself
+  pub right-055i00 : si r i < 2 ^ 64 → does fr r p mem (octal 0 5 5 i 0 0) ≡ leaves 1 mem (setS r i 0)
+  unfolding codeOf decoded doneWith perform act apply shiftRight
+  right-055i00 l =
+      let d = digits 0 5 5 i 0 0 (omega arith) is (omega arith) (omega arith) in
+      rw (d .g-is, d .h-is, d .i-is, d .jk-is, div-eq-of-lt l)
+
+  -- 153iik: where Vi is its own operand, each element is shifted with the one that stood before it, and not with what that became
+  pub pairs-153iik : (k : ℕ) → k < 8
+      → does fr r p mem (octal 1 5 3 i i k) ≡ leaves 1 mem (apply (ToV i (λ e. shiftRightPair (before (el (r .v) i) e) (el (r .v) i e) (ak r k))) r)
+  unfolding codeOf decoded doneWith perform act
+  pairs-153iik k ks =
+      let d = digits 1 5 3 i i k (omega arith) is is ks in
+      let of : ℕ → Done = λ j. leaves 1 mem (apply (ToV i (λ e. shiftRightPair (before (el (r .v) j) e) (el (r .v) j e) (ak r k))) r) in
+      rw (d .g-is, d .h-is, d .i-is, d .k-is) (ap of (d .j-is))
 
   module _ (j k : ℕ) (js : j < 8) (ks : k < 8) where
     -- 056ijk by 64

@@ -1,4 +1,4 @@
--- Document 01's example. Its sheet is good and says 4 steps; with an address taken twice that line is the bad one. The lines
+-- The example of docs/MACHINE.md, 11. Its sheet is good and says 4 steps; with an address taken twice that line is the bad one. The lines
 -- printed of its end, and of the word that it changed, are those of the report. Assumes nothing.
 use mathlib.Core.Path.{_≡_, refl}
 use mathlib.Core.List.{List, [], _∷_, _++_}

@@ -2,3 +2,4 @@ pub mod Reading
 pub mod Writing
 pub mod Length
 pub mod Example
+pub mod Unique

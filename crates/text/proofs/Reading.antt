@@ -11,7 +11,8 @@ use lib.Seq.{drop-cons, drop-length}
 use lib.Dec.{leb, ltb}
 use borrow.Author.Tests.{eq-eqb, ne-eqb, leb-true, ltb-true}
 use Rattle.text.specs.Digits.{byteAt, isDecimal, isLetter, isHex, hexOf, allHex, hexFrom}
-use Rattle.text.specs.Sheet.{startsAt, endsAt, decimalFrom, framed, wordLine, badLine, stored, HeadFits}
+use Rattle.text.specs.Sheet.{startsAt, endsAt, decimalFrom, framed, wordLine, badLine, stored}
+use Rattle.text.specs.Bounds.{HeadFits}
 use Rattle.text.specs.declared.Head.{Head}
 use Rattle.text.specs.declared.Head.the-variants.{Says, Wrong}
 

@@ -1,4 +1,5 @@
 pub mod Names
 pub mod Digits
 pub mod Sheet
+pub mod Bounds
 pub mod Report

@@ -1,5 +1,5 @@
 -- The case sheet: what a good one says, and the first bad line of any other. Assumes nothing.
-use Prim.Native.Nat.{ℕ, zero, suc, _+_, _-_, _*_, _≤_}
+use Prim.Native.Nat.{ℕ, zero, suc, _+_, _-_, _*_}
 use mathlib.Core.Bool.{Bool, true, _&&_}
 use mathlib.Core.List.{List, [], _∷_}
 use lib.ListN.{length, set}
@@ -116,19 +116,3 @@ loadedOf text mem (Failed line) = mem
 
 unfoldable pub memoryOf : List ℕ → List ℕ → List ℕ
 memoryOf text mem = loadedOf text mem (checkOf text)
-
--- how far what a line says goes, for the sums of places --
-
--- the number is at most `most`, and the next line starts at most at `limit`
-abbrev pub HeadFits : ℕ → ℕ → Head → Type 0
-HeadFits most limit (Says v next) = (v ≤ most) × (next ≤ limit)
-HeadFits most limit Wrong = Unit
-
-abbrev pub CheckedFits : Checked → Type 0
-CheckedFits (Passed steps words at) = (at ≤ 64) × (words ≤ 1024) × (steps ≤ 1000000)
-CheckedFits (Failed line) = Unit
-
--- what a good sheet asks for
-abbrev pub SheetFits : Sheet → Type 0
-SheetFits (Good steps) = steps ≤ 1000000
-SheetFits (Bad line) = Unit

@@ -5,7 +5,8 @@ ghost use lib.ListN.{length, set};
 ghost use lib.Seq.{sets};
 ghost use Rattle.machine.specs.Layout.{registersOf, frameOf, stateOf};
 ghost use Rattle.text.specs.Digits.{byteAt, isDecimal, isLetter, isHex, hexOf, hexFrom, glyphOf, digits, placesOf, shown};
-ghost use Rattle.text.specs.Sheet.{startsAt, endsAt, decimalFrom, numberAt, headAt, framed, badLine, stored, checkOf, sheetOf, sheetNumbers, memoryOf, HeadFits, CheckedFits, SheetFits};
+ghost use Rattle.text.specs.Sheet.{startsAt, endsAt, decimalFrom, numberAt, headAt, framed, badLine, stored, checkOf, sheetOf, sheetNumbers, memoryOf};
+ghost use Rattle.text.specs.Bounds.{HeadFits, CheckedFits, SheetFits};
 ghost use Rattle.text.specs.Report.{lineOf, commas, stopLine, modesOf, controlLines, fieldLines, programLines, registerLines, stateLines, smaller, comparedOf, change, changes, changeText, changedWords, changedLines, reportOf, refusedOf, Wrote};
 use machine::Ending;
 

@@ -28,7 +28,7 @@ use Rattle.laws.proofs.Laws.{Narrow}
 use Rattle.turns.specs.declared.Moved.the-variants.{At, Ends}
 use Rattle.turns.specs.declared.pair.Next.{Next}
 use Rattle.turns.specs.Turn.{stateAt, movedTo, lastAfter}
-use Rattle.turns.specs.Pair.{Side, sideOf, windowOf, pairAt, endAt, endBy, pairFrom, Standing, Passes, Comes}
+use Rattle.turns.specs.Pair.{Side, sideOf, windowOf, pairAt, endAt, endBy, pairFrom, Standing, Passes, PairBursts}
 use Rattle.turns.proofs.Steps.{steps-on, steps-last, ready-on, narrow-at, fits}
 use Rattle.turns.proofs.Lent.{part-long}
 
@@ -219,7 +219,7 @@ module _ (schedule pair₀ mem₀ pair pair′ mem mem′ : List ℕ) (f g : Rea
         };
       }
 
-  pub ends : movedTo (a .p .0) w ≡ Ends → Comes (a .at) (a .p) n w schedule pair₀ pair′ mem₀ mem′
+  pub ends : movedTo (a .p .0) w ≡ Ends → PairBursts (a .at) (a .p) n w schedule pair₀ pair′ mem₀ mem′
   ends e =
       let s = steps-last w (part (a .at) 672 pair) (part (a .at) 672 pair′) mem mem′ (a .p) did e in
       let ne : eqb n (length schedule) ≡ false = ne-eqb n (length schedule) (λ z. omega (arith, some)) in
@@ -236,7 +236,7 @@ module _ (schedule pair₀ mem₀ pair pair′ mem mem′ : List ℕ) (f g : Rea
 
 -- all steps are taken
 pub spent : (schedule pair₀ mem₀ pair mem : List ℕ) (f g : Reach) (a : Next) (n : ℕ) → Along schedule pair₀ mem₀ pair mem f g a n → length schedule ≤ n
-    → Comes (a .at) (a .p) n (work.To (a .p)) schedule pair₀ pair mem₀ mem
+    → PairBursts (a .at) (a .p) n (work.To (a .p)) schedule pair₀ pair mem₀ mem
 unfolding pairOf
 spent schedule pair₀ mem₀ pair mem f g a n h l =
     let e : n ≡ length schedule = omega (arith, h .within) in
@@ -251,7 +251,7 @@ spent schedule pair₀ mem₀ pair mem f g a n h l =
     }
 
 -- how a pair run ends, by how far it came; pair″ is what its end leaves
-module _ (at : ℕ) (p : ParcelAddr) (n : ℕ) (w : Work) (schedule pair pair′ pair″ mem mem′ : List ℕ) (h : Comes at p n w schedule pair pair′ mem mem′)
+module _ (at : ℕ) (p : ParcelAddr) (n : ℕ) (w : Work) (schedule pair pair′ pair″ mem mem′ : List ℕ) (h : PairBursts at p n w schedule pair pair′ mem mem′)
     (kept : part (672 - at) 672 pair″ ≡ part (672 - at) 672 pair′) where
   pub pair-spent : n ≡ length schedule → stateOf (part at 672 pair″) ≡ stateAt p (part at 672 pair′)
       → pairEnded (lastAfter n) n (firstOf pair″) (secondOf pair″) (sharing mem′) ≡ pairOf schedule Nothing 0 (firstOf pair) (secondOf pair) (sharing mem)

@@ -70,7 +70,7 @@ cameEnd bytes at p n w pair mem =
     pick (eqb n bytes) (endAt at (lastAfter n) n (stateAt p r) y (sharing mem)) (endBy at n (finish (stateAt p r) w (registersOf r) (sharing mem)) y)
 
 -- a schedule's steps from pair and mem to pair′ and mem′: whose step is next, its P, the steps, and the work of the next
-pub record Comes (at : ℕ) (p : ParcelAddr) (n : ℕ) (w : Work) (schedule pair pair′ mem mem′ : List ℕ) : Type 0 where
+pub record PairBursts (at : ℕ) (p : ParcelAddr) (n : ℕ) (w : Work) (schedule pair pair′ mem mem′ : List ℕ) : Type 0 where
   pub side : Side at
   pub fitting : Fitting (part at 672 pair′) (length mem′)
   pub narrow : p .0 < 2 ^ 24

@@ -10,7 +10,7 @@ ghost use Rattle.machine.specs.Layout.{part, registersOf, stateOf, firstOf, sec
 ghost use Rattle.dispatch.specs.Table.{Ready, Works};
 ghost use Rattle.laws.proofs.Laws.{Narrow};
 ghost use Rattle.turns.specs.Turn.{stateAt, Fitting};
-ghost use Rattle.turns.specs.Pair.{Side, sideOf, Passes, Comes};
+ghost use Rattle.turns.specs.Pair.{Side, sideOf, Passes, PairBursts};
 use crate::Moved;
 use machine::Answer;
 use machine::Last;
@@ -24,7 +24,7 @@ fn reach_at(pair: &[u64], mem: &[u64], at: usize) -> Reach
     requires { ⌜ Fitting (part at 672 (now pair)) (length (now mem)) ⌝ }
     ensures { λ f. ⌜ Ready (part at 672 (now (pair .entry))) f (length (now (mem .entry))) ⌝ }
 {
-    let end = at + 672;
+    let end = at + access::WORDS;
     access::reach(&pair[at..end], mem)
 }
 
@@ -36,7 +36,7 @@ fn step_at(pair: &mut [u64], mem: &mut [u64], at: usize, f: Reach, p: ParcelAddr
     ensures { λ w. ⌜ Works w (part at 672 (now (pair .entry))) (part at 672 (now (pair .exit))) (now (mem .entry)) (now (mem .exit)) (p .0) ⌝ }
     ensures { λ w. ⌜ part (672 - at) 672 (now (pair .exit)) ≡ part (672 - at) 672 (now (pair .entry)) ⌝ }
 {
-    let end = at + 672;
+    let end = at + access::WORDS;
     let r = &mut pair[at..end];
     dispatch::work(r, mem, f, p)
 }
@@ -47,7 +47,7 @@ fn keep_p(pair: &mut [u64], at: usize, p: ParcelAddr)
     ensures { λ _. ⌜ stateOf (part at 672 (now (pair .exit))) ≡ stateAt p (part at 672 (now (pair .entry))) ⌝ }
     ensures { λ _. ⌜ part (672 - at) 672 (now (pair .exit)) ≡ part (672 - at) 672 (now (pair .entry)) ⌝ }
 {
-    let end = at + 672;
+    let end = at + access::WORDS;
     let r = &mut pair[at..end];
     crate::set_p(r, p)
 }
@@ -60,7 +60,7 @@ fn finish_at(pair: &mut [u64], mem: &mut [u64], at: usize, p: ParcelAddr, w: Wor
     ensures { λ o. ⌜ out o (stateOf (part at 672 (now (pair .exit)))) (sharing (now (mem .exit))) ≡ finish (stateAt p (part at 672 (now (pair .entry)))) w (registersOf (part at 672 (now (pair .entry)))) (sharing (now (mem .entry))) ⌝ }
     ensures { λ o. ⌜ part (672 - at) 672 (now (pair .exit)) ≡ part (672 - at) 672 (now (pair .entry)) ⌝ }
 {
-    let end = at + 672;
+    let end = at + access::WORDS;
     let r = &mut pair[at..end];
     crate::finish(r, mem, p, w)
 }
@@ -83,21 +83,21 @@ fn pass(pair: &mut [u64], first: Reach, second: Reach, from: Next, byte: u8) -> 
     if byte == 0 {
         return Next {
             at: 0,
-            p: ParcelAddr(pair[0]),
+            p: ParcelAddr(pair[access::P]),
             f: first,
             byte,
         };
     }
     Next {
-        at: 672,
-        p: ParcelAddr(pair[672]),
+        at: access::WORDS,
+        p: ParcelAddr(pair[access::WORDS]),
         f: second,
         byte,
     }
 }
 
-// How far a schedule came: whose step is next, its P, the steps, and how the work of the next ended, if it has one.
-pub struct Came {
+// How far a pair's burst came: whose step is next, its P, the steps, and how the work of the next ended, if it has one.
+pub struct PairBurst {
     pub at: usize,
     pub p: ParcelAddr,
     pub steps: usize,
@@ -105,17 +105,17 @@ pub struct Came {
 }
 
 // Steps until the schedule is spent or one does more than step. What both reach stays as it is all this time.
-fn take(pair: &mut [u64], mem: &mut [u64], schedule: &[u8]) -> Came
+fn take(pair: &mut [u64], mem: &mut [u64], schedule: &[u8]) -> PairBurst
     requires { ⌜ (length (now pair) ≡ 1344) × (length (now schedule) ≤ 65536) ⌝ }
     requires { ⌜ Fitting (part 0 672 (now pair)) (length (now mem)) × Fitting (part 672 672 (now pair)) (length (now mem)) ⌝ }
     requires { ⌜ (getD (now pair) 0 0 < 2 ^ 24) × (getD (now pair) 672 0 < 2 ^ 24) ⌝ }
-    ensures { λ o. ⌜ Comes (o .at) (o .p) (o .steps) (o .work) (now (schedule .entry)) (now (pair .entry)) (now (pair .exit)) (now (mem .entry)) (now (mem .exit)) ⌝ }
+    ensures { λ o. ⌜ PairBursts (o .at) (o .p) (o .steps) (o .work) (now (schedule .entry)) (now (pair .entry)) (now (pair .exit)) (now (mem .entry)) (now (mem .exit)) ⌝ }
 {
     let first = reach_at(pair, mem, 0);
-    let second = reach_at(pair, mem, 672);
+    let second = reach_at(pair, mem, access::WORDS);
     let mut next = Next {
         at: 0,
-        p: ParcelAddr(pair[0]),
+        p: ParcelAddr(pair[access::P]),
         f: first,
         byte: 0,
     };
@@ -130,7 +130,7 @@ fn take(pair: &mut [u64], mem: &mut [u64], schedule: &[u8]) -> Came
         let byte = next.byte;
         let w = step_at(pair, mem, at, f, p);
         let Moved::At(q) = crate::move_p(p, w) else {
-            return Came {
+            return PairBurst {
                 at,
                 p,
                 steps: n,
@@ -141,7 +141,7 @@ fn take(pair: &mut [u64], mem: &mut [u64], schedule: &[u8]) -> Came
         n += 1;
     }
     let p = next.p;
-    Came {
+    PairBurst {
         at: next.at,
         p,
         steps: n,
@@ -162,10 +162,10 @@ pub fn take_schedule(pair: &mut [u64], mem: &mut [u64], schedule: &[u8]) -> Pair
     requires { ⌜ (getD (now pair) 0 0 < 2 ^ 24) × (getD (now pair) 672 0 < 2 ^ 24) ⌝ }
     ensures { λ o. ⌜ pairEnded (o .last) (o .steps) (firstOf (now (pair .exit))) (secondOf (now (pair .exit))) (sharing (now (mem .exit))) ≡ pairOf (now (schedule .entry)) Nothing 0 (firstOf (now (pair .entry))) (secondOf (now (pair .entry))) (sharing (now (mem .entry))) ⌝ }
 {
-    let came = take(pair, mem, schedule);
-    let at = came.at;
-    let p = came.p;
-    let n = came.steps;
+    let burst = take(pair, mem, schedule);
+    let at = burst.at;
+    let p = burst.p;
+    let n = burst.steps;
     let steps = n as u64;
     if n == schedule.len() {
         keep_p(pair, at, p);
@@ -174,7 +174,7 @@ pub fn take_schedule(pair: &mut [u64], mem: &mut [u64], schedule: &[u8]) -> Pair
             steps,
         };
     }
-    let work = came.work;
+    let work = burst.work;
     let answer = finish_at(pair, mem, at, p, work);
     Paired {
         last: Last::Was(answer),

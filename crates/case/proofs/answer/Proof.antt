@@ -1,7 +1,7 @@
 use native.Mathlib.Omega.{arith}
 use mathlib.Core.Path.{sym, _∙_, subst}
 use Rattle.machine.specs.Run.{zeros}
-use Rattle.text.specs.Sheet.{SheetFits}
+use Rattle.text.specs.Bounds.{SheetFits}
 use Rattle.case.proofs.Laws.{good-answer, bad-answer}
 use borrow.Author.Needs.{needs}
 use Rattle.case.proofs.answer.Statement.{statement}

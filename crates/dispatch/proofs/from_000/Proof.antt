@@ -1,7 +1,7 @@
 use native.Mathlib.Omega.{arith}
 use mathlib.Core.Path.{refl}
 use borrow.Author.Needs.{needs}
-use Rattle.dispatch.proofs.Arms.{arm-says, own, none-in}
+use Rattle.dispatch.proofs.Arms.{alone, arm-says, own, none-in}
 use Rattle.dispatch.proofs.from_000.Statement.{statement}
 use Rattle.dispatch.proofs.from_000.Tie as tie
 
@@ -9,23 +9,23 @@ pub from-000-spec : {M : Type 1} → statement M
 from-000-spec =
     tie.close
     (tie.spec
-    (λ c κs. (arm-says _ _ 0 (c .before .before .before .pre .1 .0) (c .before .before .before .pre .1 .1) (c .match .keys1), c .before .before .before .pre .1 .0))
-    (λ c κs. (c .before .before .before .before .pre .0 .long, own _ _ _ (c .before .before .before .before .pre .1 .0) (c .before .before .before .before .pre .1 .1) (c .before .match .keys2) (λ c. refl)))
-    (λ c κs. (c .before .before .before .before .pre .0 .long, own _ _ _ (c .before .before .before .before .pre .1 .0) (c .before .before .before .before .pre .1 .1) (c .before .match .keys3) (λ c. refl)))
-    (λ c κs. (c .before .before .before .before .pre .0 .long, own _ _ _ (c .before .before .before .before .pre .1 .0) (c .before .before .before .before .pre .1 .1) (c .before .match .keys4) (λ c. refl)))
-    (λ c κs. own _ _ _ (c .before .before .before .pre .1 .0) (c .before .before .before .pre .1 .1) (c .match .keys5) (λ c. refl))
-    (λ c κs. (c .before .before .before .before .pre .0 .long, own _ _ _ (c .before .before .before .before .pre .1 .0) (c .before .before .before .before .pre .1 .1) (c .before .match .keys6) (λ c. refl)))
-    (λ c κs. ((c .before .before .before .before .before .pre .0 .long, own _ _ _ (c .before .before .before .before .before .pre .1 .0) (c .before .before .before .before .before .pre .1 .1) (c .before .before .match .keys7) (λ c. refl)), c .before .before .before .before .before .pre .0 .reaches))
-    (λ c κs. ((c .before .before .before .before .before .pre .0 .long, own _ _ _ (c .before .before .before .before .before .pre .1 .0) (c .before .before .before .before .before .pre .1 .1) (c .before .before .match .keys8) (λ c. refl)), c .before .before .before .before .before .pre .0 .reaches))
-    (λ c κs. ((c .before .before .before .before .before .pre .0 .long, own _ _ _ (c .before .before .before .before .before .pre .1 .0) (c .before .before .before .before .before .pre .1 .1) (c .before .before .match .keys9) (λ c. refl)), c .before .before .before .before .before .pre .0 .reaches))
-    (λ c κs. ((c .before .before .before .before .before .pre .0 .long, own _ _ _ (c .before .before .before .before .before .pre .1 .0) (c .before .before .before .before .before .pre .1 .1) (c .before .before .match .keys10) (λ c. refl)), c .before .before .before .before .before .pre .0 .reaches))
-    (λ c κs. ((c .before .before .before .before .before .pre .0 .long, own _ _ _ (c .before .before .before .before .before .pre .1 .0) (c .before .before .before .before .before .pre .1 .1) (c .before .before .match .keys11) (λ c. refl)), c .before .before .before .before .before .pre .0 .reaches))
-    (λ c κs. ((c .before .before .before .before .before .pre .0 .long, own _ _ _ (c .before .before .before .before .before .pre .1 .0) (c .before .before .before .before .before .pre .1 .1) (c .before .before .match .keys12) (λ c. refl)), c .before .before .before .before .before .pre .0 .reaches))
-    (λ c κs. ((c .before .before .before .before .before .pre .0 .long, own _ _ _ (c .before .before .before .before .before .pre .1 .0) (c .before .before .before .before .before .pre .1 .1) (c .before .before .match .keys13) (λ c. refl)), c .before .before .before .before .before .pre .0 .reaches))
-    (λ c κs. ((c .before .before .before .before .before .pre .0 .long, own _ _ _ (c .before .before .before .before .before .pre .1 .0) (c .before .before .before .before .before .pre .1 .1) (c .before .before .match .keys14) (λ c. refl)), c .before .before .before .before .before .pre .0 .reaches))
-    (λ c κs. ((c .before .before .before .before .before .pre .0 .long, own _ _ _ (c .before .before .before .before .before .pre .1 .0) (c .before .before .before .before .before .pre .1 .1) (c .before .before .match .keys15) (λ c. refl)), c .before .before .before .before .before .pre .0 .reaches))
-    (λ c κs. ((c .before .before .before .before .before .pre .0 .long, own _ _ _ (c .before .before .before .before .before .pre .1 .0) (c .before .before .before .before .before .pre .1 .1) (c .before .before .match .keys16) (λ c. refl)), c .before .before .before .before .before .pre .0 .reaches))
-    (λ c κs. (c .before .before .before .before .before .pre .0, (c .before .before .before .before .before .pre .1 .0, c .before .before .before .before .before .pre .1 .1, none-in _ _ 0 16 (c .before .before .match .rest) (omega arith))))
+    (λ c κs. let s = c .before .before .before .pre in (arm-says _ _ 0 (s .1 .0) (s .1 .1) (c .match .keys1), s .1 .0))
+    (λ c κs. let s = c .before .before .before .before .pre in alone (s .0) (s .1 .0) (s .1 .1) (c .before .match .keys2) (λ c. refl))
+    (λ c κs. let s = c .before .before .before .before .pre in alone (s .0) (s .1 .0) (s .1 .1) (c .before .match .keys3) (λ c. refl))
+    (λ c κs. let s = c .before .before .before .before .pre in alone (s .0) (s .1 .0) (s .1 .1) (c .before .match .keys4) (λ c. refl))
+    (λ c κs. let s = c .before .before .before .pre in own _ _ _ (s .1 .0) (s .1 .1) (c .match .keys5) (λ c. refl))
+    (λ c κs. let s = c .before .before .before .before .pre in alone (s .0) (s .1 .0) (s .1 .1) (c .before .match .keys6) (λ c. refl))
+    (λ c κs. let s = c .before .before .before .before .before .pre in (alone (s .0) (s .1 .0) (s .1 .1) (c .before .before .match .keys7) (λ c. refl), s .0 .reaches))
+    (λ c κs. let s = c .before .before .before .before .before .pre in (alone (s .0) (s .1 .0) (s .1 .1) (c .before .before .match .keys8) (λ c. refl), s .0 .reaches))
+    (λ c κs. let s = c .before .before .before .before .before .pre in (alone (s .0) (s .1 .0) (s .1 .1) (c .before .before .match .keys9) (λ c. refl), s .0 .reaches))
+    (λ c κs. let s = c .before .before .before .before .before .pre in (alone (s .0) (s .1 .0) (s .1 .1) (c .before .before .match .keys10) (λ c. refl), s .0 .reaches))
+    (λ c κs. let s = c .before .before .before .before .before .pre in (alone (s .0) (s .1 .0) (s .1 .1) (c .before .before .match .keys11) (λ c. refl), s .0 .reaches))
+    (λ c κs. let s = c .before .before .before .before .before .pre in (alone (s .0) (s .1 .0) (s .1 .1) (c .before .before .match .keys12) (λ c. refl), s .0 .reaches))
+    (λ c κs. let s = c .before .before .before .before .before .pre in (alone (s .0) (s .1 .0) (s .1 .1) (c .before .before .match .keys13) (λ c. refl), s .0 .reaches))
+    (λ c κs. let s = c .before .before .before .before .before .pre in (alone (s .0) (s .1 .0) (s .1 .1) (c .before .before .match .keys14) (λ c. refl), s .0 .reaches))
+    (λ c κs. let s = c .before .before .before .before .before .pre in (alone (s .0) (s .1 .0) (s .1 .1) (c .before .before .match .keys15) (λ c. refl), s .0 .reaches))
+    (λ c κs. let s = c .before .before .before .before .before .pre in (alone (s .0) (s .1 .0) (s .1 .1) (c .before .before .match .keys16) (λ c. refl), s .0 .reaches))
+    (λ c κs. let s = c .before .before .before .before .before .pre in (s .0, (s .1 .0, s .1 .1, none-in _ _ 0 16 (c .before .before .match .rest) (omega arith))))
     (λ c. c .error-exit .ensures _ _ _)
     (λ c. search needs)
     (λ c. c .before .before .privileged .ensures _ _)

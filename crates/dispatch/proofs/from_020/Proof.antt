@@ -2,7 +2,7 @@ use native.Mathlib.Omega.{arith}
 use mathlib.Core.Path.{refl}
 use borrow.Author.Needs.{needs}
 use Rattle.memory.proofs.Fields.{reached}
-use Rattle.dispatch.proofs.Arms.{own, past-020}
+use Rattle.dispatch.proofs.Arms.{alone, past-020}
 use Rattle.dispatch.proofs.from_020.Statement.{statement}
 use Rattle.dispatch.proofs.from_020.Tie as tie
 
@@ -10,26 +10,26 @@ pub from-020-spec : {M : Type 1} → statement M
 from-020-spec =
     tie.close
     (tie.spec
-    (λ c κs. ((c .before .before .before .before .before .pre .0 .long, own _ _ _ (c .before .before .before .before .before .pre .1 .0) (c .before .before .before .before .before .pre .1 .1) (c .before .before .match .keys1) (λ c. refl)), c .before .before .before .before .before .pre .0 .reaches))
-    (λ c κs. ((c .before .before .before .before .before .pre .0 .long, own _ _ _ (c .before .before .before .before .before .pre .1 .0) (c .before .before .before .before .before .pre .1 .1) (c .before .before .match .keys2) (λ c. refl)), c .before .before .before .before .before .pre .0 .reaches))
-    (λ c κs. (c .before .before .before .before .pre .0 .long, own _ _ _ (c .before .before .before .before .pre .1 .0) (c .before .before .before .before .pre .1 .1) (c .before .match .keys3) (λ c. refl)))
-    (λ c κs. (c .before .before .before .before .pre .0 .long, own _ _ _ (c .before .before .before .before .pre .1 .0) (c .before .before .before .before .pre .1 .1) (c .before .match .keys4) (λ c. refl)))
-    (λ c κs. (c .before .before .before .before .pre .0 .long, own _ _ _ (c .before .before .before .before .pre .1 .0) (c .before .before .before .before .pre .1 .1) (c .before .match .keys5) (λ c. refl)))
-    (λ c κs. (c .before .before .before .before .pre .0 .long, own _ _ _ (c .before .before .before .before .pre .1 .0) (c .before .before .before .before .pre .1 .1) (c .before .match .keys6) (λ c. refl)))
-    (λ c κs. (c .before .before .before .before .pre .0 .long, own _ _ _ (c .before .before .before .before .pre .1 .0) (c .before .before .before .before .pre .1 .1) (c .before .match .keys7) (λ c. refl)))
-    (λ c κs. (c .before .before .before .before .pre .0 .long, own _ _ _ (c .before .before .before .before .pre .1 .0) (c .before .before .before .before .pre .1 .1) (c .before .match .keys8) (λ c. refl)))
-    (λ c κs. (c .before .before .before .before .pre .0 .long, own _ _ _ (c .before .before .before .before .pre .1 .0) (c .before .before .before .before .pre .1 .1) (c .before .match .keys9) (λ c. refl)))
-    (λ c κs. (c .before .before .before .before .pre .0 .long, own _ _ _ (c .before .before .before .before .pre .1 .0) (c .before .before .before .before .pre .1 .1) (c .before .match .keys10) (λ c. refl)))
-    (λ c κs. (c .before .before .before .before .pre .0 .long, own _ _ _ (c .before .before .before .before .pre .1 .0) (c .before .before .before .before .pre .1 .1) (c .before .match .keys11) (λ c. refl)))
-    (λ c κs. ((c .before .before .before .before .before .pre .0 .long, own _ _ _ (c .before .before .before .before .before .pre .1 .0) (c .before .before .before .before .before .pre .1 .1) (c .before .before .match .keys12) (λ c. refl)), reached _ _ _ (c .before .before .before .before .before .pre .0 .reaches)))
+    (λ c κs. let s = c .before .before .before .before .before .pre in (alone (s .0) (s .1 .0) (s .1 .1) (c .before .before .match .keys1) (λ c. refl), s .0 .reaches))
+    (λ c κs. let s = c .before .before .before .before .before .pre in (alone (s .0) (s .1 .0) (s .1 .1) (c .before .before .match .keys2) (λ c. refl), s .0 .reaches))
+    (λ c κs. let s = c .before .before .before .before .pre in alone (s .0) (s .1 .0) (s .1 .1) (c .before .match .keys3) (λ c. refl))
+    (λ c κs. let s = c .before .before .before .before .pre in alone (s .0) (s .1 .0) (s .1 .1) (c .before .match .keys4) (λ c. refl))
+    (λ c κs. let s = c .before .before .before .before .pre in alone (s .0) (s .1 .0) (s .1 .1) (c .before .match .keys5) (λ c. refl))
+    (λ c κs. let s = c .before .before .before .before .pre in alone (s .0) (s .1 .0) (s .1 .1) (c .before .match .keys6) (λ c. refl))
+    (λ c κs. let s = c .before .before .before .before .pre in alone (s .0) (s .1 .0) (s .1 .1) (c .before .match .keys7) (λ c. refl))
+    (λ c κs. let s = c .before .before .before .before .pre in alone (s .0) (s .1 .0) (s .1 .1) (c .before .match .keys8) (λ c. refl))
+    (λ c κs. let s = c .before .before .before .before .pre in alone (s .0) (s .1 .0) (s .1 .1) (c .before .match .keys9) (λ c. refl))
+    (λ c κs. let s = c .before .before .before .before .pre in alone (s .0) (s .1 .0) (s .1 .1) (c .before .match .keys10) (λ c. refl))
+    (λ c κs. let s = c .before .before .before .before .pre in alone (s .0) (s .1 .0) (s .1 .1) (c .before .match .keys11) (λ c. refl))
+    (λ c κs. let s = c .before .before .before .before .before .pre in (alone (s .0) (s .1 .0) (s .1 .1) (c .before .before .match .keys12) (λ c. refl), reached _ _ _ (s .0 .reaches)))
     (λ c κs. search needs)
-    (λ c κs. ((c .before .before .before .before .before .pre .0 .long, own _ _ _ (c .before .before .before .before .before .pre .1 .0) (c .before .before .before .before .before .pre .1 .1) (c .before .before .match .keys13) (λ c. refl)), reached _ _ _ (c .before .before .before .before .before .pre .0 .reaches)))
+    (λ c κs. let s = c .before .before .before .before .before .pre in (alone (s .0) (s .1 .0) (s .1 .1) (c .before .before .match .keys13) (λ c. refl), reached _ _ _ (s .0 .reaches)))
     (λ c κs. search needs)
-    (λ c κs. ((c .before .before .before .before .before .pre .0 .long, own _ _ _ (c .before .before .before .before .before .pre .1 .0) (c .before .before .before .before .before .pre .1 .1) (c .before .before .match .keys14) (λ c. refl)), reached _ _ _ (c .before .before .before .before .before .pre .0 .reaches)))
+    (λ c κs. let s = c .before .before .before .before .before .pre in (alone (s .0) (s .1 .0) (s .1 .1) (c .before .before .match .keys14) (λ c. refl), reached _ _ _ (s .0 .reaches)))
     (λ c κs. search needs)
-    (λ c κs. ((c .before .before .before .before .before .pre .0 .long, own _ _ _ (c .before .before .before .before .before .pre .1 .0) (c .before .before .before .before .before .pre .1 .1) (c .before .before .match .keys15) (λ c. refl)), reached _ _ _ (c .before .before .before .before .before .pre .0 .reaches)))
+    (λ c κs. let s = c .before .before .before .before .before .pre in (alone (s .0) (s .1 .0) (s .1 .1) (c .before .before .match .keys15) (λ c. refl), reached _ _ _ (s .0 .reaches)))
     (λ c κs. search needs)
-    (λ c κs. (c .before .before .before .before .before .pre .0, (c .before .before .before .before .before .pre .1 .0, c .before .before .before .before .before .pre .1 .1, past-020 _ _ (c .before .before .before .before .before .pre .1 .0) (c .before .before .before .before .before .pre .1 .1) (c .before .before .before .before .before .pre .1 .2) (c .before .before .match .rest))))
+    (λ c κs. let s = c .before .before .before .before .before .pre in (s .0, (s .1 .0, s .1 .1, past-020 _ _ (s .1 .0) (s .1 .1) (s .1 .2) (c .before .before .match .rest))))
     (λ c. search needs)
     (λ c. search needs)
     (λ c. c .before .before .enter .ensures)

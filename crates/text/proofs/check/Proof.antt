@@ -2,7 +2,8 @@ use mathlib.Core.Path.{subst}
 use Prim.Native.Nat.{_+_}
 use native.Mathlib.Omega.{arith}
 use borrow.Author.Tests.{lt-ltb, le-ltb, eq-eqb, ne-eqb}
-use Rattle.text.specs.Sheet.{checkOf, afterSteps, afterWords, HeadFits}
+use Rattle.text.specs.Sheet.{checkOf, afterSteps, afterWords}
+use Rattle.text.specs.Bounds.{HeadFits}
 use borrow.Author.Needs.{needs}
 use Rattle.text.proofs.check.Statement.{statement}
 use Rattle.text.proofs.check.Tie as tie

@@ -4,7 +4,8 @@ use mathlib.Core.Path.{subst}
 use Prim.Native.Nat.{_+_}
 use native.Mathlib.Omega.{arith}
 use borrow.Author.Tests.{lt-leb, le-leb, not-true, not-false}
-use Rattle.text.specs.Sheet.{headAt, upTo, HeadFits}
+use Rattle.text.specs.Sheet.{headAt, upTo}
+use Rattle.text.specs.Bounds.{HeadFits}
 use borrow.Author.Needs.{needs}
 use Rattle.text.proofs.head_line.Statement.{statement}
 use Rattle.text.proofs.head_line.Tie as tie

@@ -1,5 +1,6 @@
 use mathlib.Core.Path.{refl, subst}
-use Rattle.text.specs.Sheet.{sheetFrom, sheetOf, loadedOf, memoryOf, CheckedFits}
+use Rattle.text.specs.Sheet.{sheetFrom, sheetOf, loadedOf, memoryOf}
+use Rattle.text.specs.Bounds.{CheckedFits}
 use borrow.Author.Needs.{needs}
 use Rattle.text.proofs.read.Statement.{statement}
 use Rattle.text.proofs.read.Tie as tie
