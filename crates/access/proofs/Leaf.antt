@@ -55,7 +55,8 @@ unfolding decoded doneWith
 lost w r mem p x n e g h = executes w r r mem mem p x (Two n) e refl (rw (g, h))
 
 -- one parcel, and a register written
-pub puts : (n : Instr) (u : Put) (w : Work) (r r′ mem : List ℕ) (p x : ℕ) → (w ≡ PastOne) × Puts r r′ u → codeOf (user (frameOf r)) x ≡ One n → actAt r p x 0 1 n ≡ Does u
+pub puts : (n : Instr) (u : Put) (w : Work) (r r′ mem : List ℕ) (p x : ℕ) → (w ≡ PastOne) × Puts r r′ u
+    → codeOf (user (frameOf r)) x ≡ One n → actAt r p x 0 1 n ≡ Does u
     → Executes w r r′ mem mem p x
 unfolding perform
 puts n u w r r′ mem p x h e a = one w r r′ mem mem p x n e (h .1 .frame) (rw (a, h .0, h .1 .registers))
@@ -67,7 +68,8 @@ unfolding perform
 puts-two n u w r r′ mem p x m h k e g a = two w r r′ mem mem p x n m e g (k .frame) (rw (a, h, k .registers))
 
 -- two parcels, P going to q
-pub goes-two : (n : Instr) (u : Put) (q : ℕ) (w : Work) (r r′ mem : List ℕ) (p x m : ℕ) → w ≡ To (addr (q % 2 ^ 24)) → Puts r r′ u → codeOf (user (frameOf r)) x ≡ Two n
+pub goes-two : (n : Instr) (u : Put) (q : ℕ) (w : Work) (r r′ mem : List ℕ) (p x m : ℕ) → w ≡ To (addr (q % 2 ^ 24)) → Puts r r′ u
+    → codeOf (user (frameOf r)) x ≡ Two n
     → fetchOf (frameOf r) mem (onward p 1) ≡ Parcel m → actAt r p x m 2 n ≡ Goes q u → Executes w r r′ mem mem p x
 unfolding perform
 goes-two n u q w r r′ mem p x m h k e g a = two w r r′ mem mem p x n m e g (k .frame) (rw (a, h, k .registers))

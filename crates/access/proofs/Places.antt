@@ -96,7 +96,7 @@ module _ (w : List ℕ) (i y : ℕ) where
       record {
         frame = frame-kept w (16 + i) y (omega arith);
         registers = to-files w (16 + i) y _ _ _ _ _ (omega arith) (part-in 16 8 w i y h) (stays 24 8 (inl (omega arith)))
-        (stays 32 64 (inl (omega arith))) (stays 96 64 (inl (omega arith))) (stays 160 512 (inl (omega arith)));
+            (stays 32 64 (inl (omega arith))) (stays 96 64 (inl (omega arith))) (stays 160 512 (inl (omega arith)));
       }
 
   pub to-s : i < 8 → Puts w (set w (24 + i) y) (ToS i y)
@@ -106,7 +106,7 @@ module _ (w : List ℕ) (i y : ℕ) where
       record {
         frame = frame-kept w (24 + i) y (omega arith);
         registers = to-files w (24 + i) y _ _ _ _ _ (omega arith) (stays 16 8 (inr (omega arith))) (part-in 24 8 w i y h)
-        (stays 32 64 (inl (omega arith))) (stays 96 64 (inl (omega arith))) (stays 160 512 (inl (omega arith)));
+            (stays 32 64 (inl (omega arith))) (stays 96 64 (inl (omega arith))) (stays 160 512 (inl (omega arith)));
       }
 
   pub to-b : i < 64 → Puts w (set w (32 + i) y) (ToB i y)
@@ -116,7 +116,7 @@ module _ (w : List ℕ) (i y : ℕ) where
       record {
         frame = frame-kept w (32 + i) y (omega arith);
         registers = to-files w (32 + i) y _ _ _ _ _ (omega arith) (stays 16 8 (inr (omega arith))) (stays 24 8 (inr (omega arith)))
-        (part-in 32 64 w i y h) (stays 96 64 (inl (omega arith))) (stays 160 512 (inl (omega arith)));
+            (part-in 32 64 w i y h) (stays 96 64 (inl (omega arith))) (stays 160 512 (inl (omega arith)));
       }
 
   pub to-t : i < 64 → Puts w (set w (96 + i) y) (ToT i y)
@@ -126,7 +126,7 @@ module _ (w : List ℕ) (i y : ℕ) where
       record {
         frame = frame-kept w (96 + i) y (omega arith);
         registers = to-files w (96 + i) y _ _ _ _ _ (omega arith) (stays 16 8 (inr (omega arith))) (stays 24 8 (inr (omega arith)))
-        (stays 32 64 (inr (omega arith))) (part-in 96 64 w i y h) (stays 160 512 (inl (omega arith)));
+            (stays 32 64 (inr (omega arith))) (part-in 96 64 w i y h) (stays 160 512 (inl (omega arith)));
       }
 
   -- a place of the V registers

@@ -63,7 +63,8 @@ ring-fill at first f w (suc n) h =
     rw (e, ring-fill at first f w n (omega arith))
 
 -- a ring goes on where another ended
-pub ring-more : (at first : ℕ) (f : ℕ → ℕ) (m : ℕ) (w : List ℕ) (n : ℕ) → ringAt at (first + m) (λ e. f (m + e)) n (ringAt at first f m w) ≡ ringAt at first f (m + n) w
+pub ring-more : (at first : ℕ) (f : ℕ → ℕ) (m : ℕ) (w : List ℕ) (n : ℕ)
+    → ringAt at (first + m) (λ e. f (m + e)) n (ringAt at first f m w) ≡ ringAt at first f (m + n) w
 unfolding ringAt
 ring-more at first f m w zero = let e : m + 0 ≡ m = omega arith in rw e
 ring-more at first f m w (suc n) =

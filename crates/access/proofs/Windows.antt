@@ -55,7 +55,14 @@ module _ (f : Field) (len w : ℕ) (narrow : f .base < 2 ^ 17) (short : len ≤ 
       go false false true d e g = refl
       go false false false d e g =
           let l = least (f .limit * 32) len in
-          let z : ⊥ = omega (arith, ltb-false q (f .base * 32) d, leb-false (f .limit * 32) q e, leb-false len q g, l .2 q (leb-false (f .limit * 32) q e) (leb-false len q g)) in
+          let z : ⊥ = omega (
+            arith,
+            ltb-false q (f .base * 32) d,
+            leb-false (f .limit * 32) q e,
+            leb-false len q g,
+            l .2 q
+                (leb-false (f .limit * 32) q e) (leb-false len q g),
+          ) in
           absurd z
 
   -- so the window is the field

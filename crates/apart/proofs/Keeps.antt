@@ -9,7 +9,8 @@ use lib.Dec.{eqb}
 use Rattle.machine.specs.declared.Work.{Work}
 use Rattle.machine.specs.declared.Work.the-variants.{PastOne, PastTwo, To, NormalExit, ErrorExit, OperandRange, ProgramRange, NotHeld, MonitorFetch}
 use Rattle.machine.specs.Parcel.{onward}
-use Rattle.machine.specs.State.{Frame, Registers, State, Shared, ring, Put, Nothing, ToA, ToS, ToB, ToT, ToBs, ToTs, ToV, ToElement, ToVL, ToVM, ToXA, ToIOR, ToBDM, apply}
+use Rattle.machine.specs.State.{Frame, Registers, State, Shared, ring, Put, Nothing, ToA, ToS, ToB, ToT}
+use Rattle.machine.specs.State.{ToBs, ToTs, ToV, ToElement, ToVL, ToVM, ToXA, ToIOR, ToBDM, apply}
 use Rattle.machine.specs.Memory.{dataField, load}
 use Rattle.machine.specs.Act.{Act, Does, Goes, Reads, Writes, LeavesNormally, LeavesByError}
 use Rattle.machine.specs.Work.{perform, statusOf, workOf}

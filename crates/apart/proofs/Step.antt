@@ -17,7 +17,8 @@ use Rattle.machine.specs.Memory.{dataField, anyOutside, fetchOf}
 use Rattle.machine.specs.Act.{Act, Does, Goes, Reads, Writes, LeavesNormally, LeavesByError, act}
 use Rattle.machine.specs.Codes.{Code, None, One, Two, codeOf}
 use Rattle.machine.specs.Work as present
-use Rattle.machine.specs.Work.{Present, NoParcel, Has, withParcel, decoded, presentOf, Done, done, outside, ranged, perform, noParcel, statusOf, doneWith, workOf}
+use Rattle.machine.specs.Work.{Present, NoParcel, Has, withParcel, decoded, presentOf, Done, done}
+use Rattle.machine.specs.Work.{outside, ranged, perform, noParcel, statusOf, doneWith, workOf}
 use Rattle.machine.specs.Step.{exchange, stepped, finish, finishOf, stepOf}
 use Rattle.laws.proofs.Laws.{work-all}
 use Rattle.laws.proofs.Answers.{distinct}

@@ -64,7 +64,8 @@ line-by s g = go (second (g .first)) (g .two)
     m = g .second
 
     go : (a b : Bool) → pick a (pick b (lineIs s (lineOf x m) (x ∷ m ∷ [])) (ifLast (lineIs s (dataLine x) (x ∷ [])))) (lineIs s (lineOf x 0) (x ∷ []))
-        ≡ pick (pick a (not b) false) (ifLast (lineIs s (pick a (pick b (lineOf x m) (dataLine x)) (lineOf x 0)) (pick a (pick b (x ∷ m ∷ []) (x ∷ [])) (x ∷ []))))
+        ≡ pick (pick a (not b) false) (ifLast (lineIs s (pick a (pick b (lineOf x m) (dataLine x)) (lineOf x 0))
+        (pick a (pick b (x ∷ m ∷ []) (x ∷ [])) (x ∷ []))))
         (lineIs s (pick a (pick b (lineOf x m) (dataLine x)) (lineOf x 0)) (pick a (pick b (x ∷ m ∷ []) (x ∷ [])) (x ∷ [])))
     go true true = refl
     go true false = refl
@@ -303,7 +304,8 @@ module _ (text : List ℕ) (at : ℕ) (more : at < length text) (h : Heard) wher
   pub heard-here : Hears (drop at text) h → ReadsAs text at (readLine (drop at text)) (readAs at (length text - at) h)
   heard-here hears =
       let none : drop at text ++ [] ≡ drop at text = append-nil (drop at text) in
-      line-heard text at more [] h (ap guessOf none) (subst (λ (l : List ℕ). Hears l h) (sym none) hears) (first-below (drop at text)) (second-below (drop at text))
+      line-heard text at more [] h (ap guessOf none) (subst (λ (l : List ℕ). Hears l h) (sym none) hears) (first-below (drop at text))
+      (second-below (drop at text))
 
   pub heard-padded : (rest : List ℕ) → rest ≡ sets (replicate 64 10) 0 (drop at text) → length text < at + 32 → Hears rest h
       → ReadsAs text at (readLine (drop at text)) (readAs at (length text - at) h)

@@ -60,7 +60,8 @@ module _ (text : List ℕ) (at k : ℕ) (done : List ℕ) (p : Passed text at k 
     pub passed-bad : readLine (drop at text) ≡ Bad → readOf text ≡ Wrong k
     passed-bad e = p .reads ∙ ap (ahead done k) (read-bad (drop at text) (length text - k) some enough e) ∙ ap Wrong (add-zero k)
 
-    pub passed-good : (ps : List ℕ) (next : ℕ) → at < next → next ≤ length text → readLine (drop at text) ≡ Good ps (drop next text) → Passed text next (k + 1) (done ++ ps)
+    pub passed-good : (ps : List ℕ) (next : ℕ) → at < next → next ≤ length text → readLine (drop at text) ≡ Good ps (drop next text)
+        → Passed text next (k + 1) (done ++ ps)
     passed-good ps next l h e =
         let less : length text - k - 1 ≡ length text - (k + 1) = omega arith in
         record {
@@ -73,10 +74,12 @@ module _ (text : List ℕ) (at k : ℕ) (done : List ℕ) (p : Passed text at k 
         }
 
     -- where all is good and fits, the next line is good and fits
-    pub passed-fits : (n : ℕ) → Fits n (readOf text) → (ps : List ℕ) × (rest : List ℕ) × (readLine (drop at text) ≡ Good ps rest) × (length done + length ps ≤ n)
+    pub passed-fits : (n : ℕ) → Fits n (readOf text) → (ps : List ℕ) × (rest : List ℕ) × (readLine (drop at text) ≡ Good ps rest)
+        × (length done + length ps ≤ n)
     passed-fits n f = go (readLine (drop at text)) refl
       where
-        go : (l : Line) → readLine (drop at text) ≡ l → (ps : List ℕ) × (rest : List ℕ) × (readLine (drop at text) ≡ Good ps rest) × (length done + length ps ≤ n)
+        go : (l : Line) → readLine (drop at text) ≡ l → (ps : List ℕ) × (rest : List ℕ) × (readLine (drop at text) ≡ Good ps rest)
+            × (length done + length ps ≤ n)
         go Bad e = absurd (subst (Fits n) (passed-bad e) f)
         go (Good ps rest) e =
             let whole = p .reads ∙ ap (ahead done k) (read-good (drop at text) (length text - k) some enough ps rest e) in
@@ -111,7 +114,8 @@ module _ (room : List ℕ) (n g : ℕ) where
   pub put-one : g / 2 ^ 32 % 2 ≡ 0 → (set room n (g % 65536) ≡ sets room n (unpacked g)) × (n + 1 ≡ n + length (unpacked g))
   put-one e = rw (eq-eqb (g / 2 ^ 32 % 2) 0 e) (refl, refl)
 
-  pub put-two : (g / 2 ^ 32 % 2 ≡ 0 → ⊥) → (set (set room n (g % 65536)) (n + 1) (g / 65536 % 65536) ≡ sets room n (unpacked g)) × (n + 2 ≡ n + length (unpacked g))
+  pub put-two : (g / 2 ^ 32 % 2 ≡ 0 → ⊥) → (set (set room n (g % 65536)) (n + 1) (g / 65536 % 65536) ≡ sets room n (unpacked g))
+      × (n + 2 ≡ n + length (unpacked g))
   put-two e = rw (ne-eqb (g / 2 ^ 32 % 2) 0 e, ← add-one n) (refl, refl)
 
 -- the line at `at` is stored: what is so after it
@@ -136,7 +140,8 @@ store-next text at k done n g p more f is =
     let less = shorter s (found .0) (found .1) (found .2) in
     let dropped = ap length (read .1) ∙ length-drop (guessOf s .length) s in
     let rest : found .1 ≡ drop (at + g / 2 ^ 33) text = read .1 ∙ drop-drop (guessOf s .length) at text ∙ ap (λ (j : ℕ). drop (at + j) text) (sym size) in
-    let good : readLine s ≡ Good (unpacked g) (drop (at + g / 2 ^ 33) text) = found .2 ∙ ap (λ (qs : List ℕ). Good qs (found .1)) same ∙ ap (λ (l : List ℕ). Good (unpacked g) l) rest in
+    let good : readLine s ≡ Good (unpacked g) (drop (at + g / 2 ^ 33) text) = found .2 ∙ ap (λ (qs : List ℕ). Good qs (found .1)) same
+    ∙ ap (λ (l : List ℕ). Good (unpacked g) l) rest in
     let on : at < at + g / 2 ^ 33 = omega (arith, size, less, dropped) in
     let inside : at + g / 2 ^ 33 ≤ length text = (let l = read .2 in omega (arith, size, l, long)) in
     record {

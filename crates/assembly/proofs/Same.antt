@@ -29,7 +29,8 @@ begins-suc [] l i h k = absurd (omega arith)
 begins-suc (c ∷ s) [] i h k = absurd (omega arith)
 begins-suc (c ∷ s) (b ∷ l) zero h k = and-true (eqb c b)
 begins-suc (c ∷ s) (b ∷ l) (suc i) h k =
-    ap (λ (t : Bool). eqb c b && t) (begins-suc s l i (le-of-suc-le-suc h) (le-of-suc-le-suc k)) ∙ and-assoc (eqb c b) (begins s (take i l)) (eqb (getD s i 0) (getD l i 0))
+    ap (λ (t : Bool). eqb c b && t) (begins-suc s l i (le-of-suc-le-suc h) (le-of-suc-le-suc k))
+    ∙ and-assoc (eqb c b) (begins s (take i l)) (eqb (getD s i 0) (getD l i 0))
 
 module _ (text line : List ℕ) (at i : ℕ) (inside : at + i < length text) (more : i < length line) where
   next-byte : begins (drop at text) (take (i + 1) line) ≡ begins (drop at text) (take i line) && eqb (getD text (at + i) 0) (getD line i 0)

@@ -283,7 +283,8 @@ fn put_next(
     forms: &[u8; 1284],
     operands: &[u16; 428],
 ) -> Next
-    requires { ⌜ (at < length (now parcels)) × (to + length (firstLine (drop at (now parcels))) ≤ length (now out)) × (now forms ≡ formTable) × (now operands ≡ operandTable) ⌝ }
+    requires { ⌜ (at < length (now parcels)) × (to + length (firstLine (drop at (now parcels))) ≤ length (now out)) ×
+        (now forms ≡ formTable) × (now operands ≡ operandTable) ⌝ }
     ensures { λ r. ⌜ Wrote (now (out .entry)) to (firstLine (drop at (now (parcels .entry)))) (now (out .exit)) (r .to) ⌝ }
     ensures { λ r. ⌜ (r .at ≡ at + parcelsIn (drop at (now (parcels .entry)))) × (at < r .at) × (r .at ≤ length (now (parcels .entry))) ⌝ }
 {

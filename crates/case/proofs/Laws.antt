@@ -27,12 +27,14 @@ module _ (mem : List ℕ) (sized : length mem ≡ 4096) where
   unfolding startCall startRefusal first memoryFits
   start-called st = rw sized
 
-  run-called : (st : State) (steps : ℕ) → stateFits st ≡ true → st .frame .processor ≡ 0 → steps ≤ 1000000 → runCall st (sharing mem) steps ≡ runOf steps 0 st (sharing mem)
+  run-called : (st : State) (steps : ℕ) → stateFits st ≡ true → st .frame .processor ≡ 0 → steps ≤ 1000000
+      → runCall st (sharing mem) steps ≡ runOf steps 0 st (sharing mem)
   unfolding runCall runRefusal first memoryFits
   run-called st steps f p l = rw (sized, le-ltb 1000000 steps l, le-ltb 1 (st .frame .processor) (omega arith), f)
 
   -- a start of any processor and a run of what it made
-  pub package-run : (n : ℕ) (st₀ st : State) (o : Ended) (steps : ℕ) → started n st ≡ startCall st₀ mem 0 0 → o ≡ runCall st (sharing mem) steps → steps ≤ 1000000
+  pub package-run : (n : ℕ) (st₀ st : State) (o : Ended) (steps : ℕ) → started n st ≡ startCall st₀ mem 0 0
+      → o ≡ runCall st (sharing mem) steps → steps ≤ 1000000
       → o ≡ runOf steps 0 (startOf mem 0 0) (sharing mem)
   package-run n st₀ st o steps s r l =
       let e : st ≡ startOf mem 0 0 = ap (λ (x : Started). x .state) (s ∙ start-called st₀) in

@@ -11,7 +11,8 @@ use borrow.Author.Tests.{eqb-true, eqb-false, eq-eqb, ne-eqb}
 use Rattle.machine.specs.Word.{pick}
 use Rattle.machine.specs.Parcel.{iOf, jOf, kOf, ijkmOf}
 use Rattle.machine.specs.State.{Registers}
-use Rattle.machine.specs.Act.{Instr, Pass, SetIOR, ClearIOR, ClearBDM, SetBDM, JumpAZ, JumpAN, JumpAP, JumpAM, JumpSZ, JumpSN, JumpSP, JumpSM, ConstantAh, branch, act}
+use Rattle.machine.specs.Act.{Instr, Pass, SetIOR, ClearIOR, ClearBDM, SetBDM, JumpAZ, JumpAN, JumpAP}
+use Rattle.machine.specs.Act.{JumpAM, JumpSZ, JumpSN, JumpSP, JumpSM, ConstantAh, branch, act}
 use Rattle.machine.specs.Codes.{Code, None, One, Two, nth, rows, branchOr, codeOf, code001, code002}
 use Rattle.access.proofs.Finite.{every, every-at}
 use Rattle.control.specs.declared.Test.{Test}
@@ -88,7 +89,8 @@ nothing u x l n z = go (eqb (x / 512) 0) refl
         let d : eqb (x % 512) 0 ≡ false = ne-eqb (x % 512) 0 (λ y. z (omega arith)) in
         rw (c, ← no-digits x, d)
     go false e =
-        let h = every-at (λ c. pick (nothingAt c && not (eqb c 0)) (isNone (entry u (iOf x) (jOf x) (kOf x) c)) true) 128 (nothing-held u (iOf x) (jOf x) (kOf x)) (x / 512) (omega arith) in
+        let h = every-at (λ c. pick (nothingAt c && not (eqb c 0)) (isNone (entry u (iOf x) (jOf x) (kOf x) c)) true) 128
+        (nothing-held u (iOf x) (jOf x) (kOf x)) (x / 512) (omega arith) in
         none-is (entry u (iOf x) (jOf x) (kOf x) (x / 512)) (chosen _ _ _ n e h)
 
 -- the branch that makes a test

@@ -83,7 +83,8 @@ line-less s = go (guessOf s) (second (guessOf s .first)) (guessOf s .two)
         (pick two (lineIs s (lineOf (g .first) (g .second)) (g .first ∷ g .second ∷ [])) (ifLast (lineIs s (dataLine (g .first)) (g .first ∷ []))))
         (lineIs s (lineOf (g .first) 0) (g .first ∷ [])))
     go g true true = is-less s (lineOf (g .first) (g .second)) (g .first ∷ g .second ∷ []) (line-some (g .first) (g .second))
-    go g true false = last-less s (lineIs s (dataLine (g .first)) (g .first ∷ [])) (is-less s (dataLine (g .first)) (g .first ∷ []) (omega (arith, data-length (g .first))))
+    go g true false =
+        last-less s (lineIs s (dataLine (g .first)) (g .first ∷ [])) (is-less s (dataLine (g .first)) (g .first ∷ []) (omega (arith, data-length (g .first))))
     go g false two = is-less s (lineOf (g .first) 0) (g .first ∷ []) (omega (arith, line-some (g .first) 0))
 
 -- and so with all lines

@@ -52,13 +52,18 @@ module _ (text room : List ℕ) (short : length text ≤ 1048576) where
     cal-some n (cal.Wrong k) e f g = let z : _≡_ {A = ℕ} 0 1 = cc in absurd (omega arith)
     cal-some n (cal.All ps) e f g = go (leb (length ps) (length room)) refl f g
       where
-        go : (t : Bool) → leb (length ps) (length room) ≡ t → pick t (said.Parcels (length ps)) said.Overfull ≡ said.Parcels n → room′ ≡ pick t (sets room 0 ps) room
+        go : (t : Bool) → leb (length ps) (length room) ≡ t → pick t (said.Parcels (length ps)) said.Overfull ≡ said.Parcels n
+            → room′ ≡ pick t (sets room 0 ps) room
             → (pick t (Some ps) (Refusal (refusedText 18)) ≡ Some (take n room′)) × (n ≤ length room′) × (n ≤ 1048576)
         go false h f g = let z : _≡_ {A = ℕ} 0 1 = cc in absurd (omega arith)
         go true h f g =
             let k : length ps ≡ n = cc in
-            let fits = leb-true _ _ h in
-            (ap Some (sym (ap (take n) g ∙ simp (← k) (stored room ps fits))), omega (arith, ap length g ∙ length-sets room 0 ps), omega (arith, read-most text ps e))
+            let fits = leb-true _ _ h in (
+              ap Some (sym (ap (take n) g ∙ simp (← k) (stored room ps fits))),
+              omega (arith, ap length g ∙ length-sets room 0 ps),
+              omega
+                  (arith, read-most text ps e),
+            )
 
     pub cal-holds : (n : ℕ) → assembled text room ≡ said.Parcels n → (calGiven (length room) text ≡ Some (take n room′)) × (n ≤ length room′) × (n ≤ 1048576)
     unfolding assembled roomAssembled calGiven
@@ -68,7 +73,8 @@ module _ (text room : List ℕ) (short : length text ≤ 1048576) where
   cal-bad-at line (cal.Wrong k) e = let f : k + 1 ≡ line = cc in simp f
   cal-bad-at line (cal.All ps) e = go (leb (length ps) (length room)) e
     where
-      go : (t : Bool) → pick t (said.Parcels (length ps)) said.Overfull ≡ said.BadLine line → pick t (Some ps) (Refusal (refusedText 18)) ≡ Refusal (refusedLine 10 line)
+      go : (t : Bool) → pick t (said.Parcels (length ps)) said.Overfull ≡ said.BadLine line
+          → pick t (Some ps) (Refusal (refusedText 18)) ≡ Refusal (refusedLine 10 line)
       go true e = let z : _≡_ {A = ℕ} 0 1 = cc in absurd (omega arith)
       go false e = let z : _≡_ {A = ℕ} 0 1 = cc in absurd (omega arith)
 
@@ -95,15 +101,21 @@ module _ (text room : List ℕ) (short : length text ≤ 1048576) where
     octal-some n (octal.Wrong k) e f g = let z : _≡_ {A = ℕ} 0 1 = cc in absurd (omega arith)
     octal-some n (octal.All ps) e f g = go (leb (length ps) (length room)) refl f g
       where
-        go : (t : Bool) → leb (length ps) (length room) ≡ t → pick t (read.Parcels (length ps)) read.Overfull ≡ read.Parcels n → room′ ≡ pick t (sets room 0 ps) room
+        go : (t : Bool) → leb (length ps) (length room) ≡ t → pick t (read.Parcels (length ps)) read.Overfull ≡ read.Parcels n
+            → room′ ≡ pick t (sets room 0 ps) room
             → (pick t (Some ps) (Refusal (refusedText 18)) ≡ Some (take n room′)) × (n ≤ length room′) × (n ≤ 1048576)
         go false h f g = let z : _≡_ {A = ℕ} 0 1 = cc in absurd (omega arith)
         go true h f g =
             let k : length ps ≡ n = cc in
-            let fits = leb-true _ _ h in
-            (ap Some (sym (ap (take n) g ∙ simp (← k) (stored room ps fits))), omega (arith, ap length g ∙ length-sets room 0 ps), omega (arith, octal-most text ps e))
+            let fits = leb-true _ _ h in (
+              ap Some (sym (ap (take n) g ∙ simp (← k) (stored room ps fits))),
+              omega (arith, ap length g ∙ length-sets room 0 ps),
+              omega
+                  (arith, octal-most text ps e),
+            )
 
-    pub octal-holds : (n : ℕ) → readTo room (octalOf text) ≡ read.Parcels n → (octalGiven (length room) text ≡ Some (take n room′)) × (n ≤ length room′) × (n ≤ 1048576)
+    pub octal-holds : (n : ℕ) → readTo room (octalOf text) ≡ read.Parcels n → (octalGiven (length room) text ≡ Some (take n room′))
+        × (n ≤ length room′) × (n ≤ 1048576)
     unfolding octalGiven
     octal-holds n e = simp (le-ltb 1048576 (length text) short) (octal-some n (octalOf text) refl e after)
 
@@ -111,7 +123,8 @@ module _ (text room : List ℕ) (short : length text ≤ 1048576) where
   octal-bad-at line (octal.Wrong k) e = let f : k ≡ line = cc in simp f
   octal-bad-at line (octal.All ps) e = go (leb (length ps) (length room)) e
     where
-      go : (t : Bool) → pick t (read.Parcels (length ps)) read.Overfull ≡ read.BadLine line → pick t (Some ps) (Refusal (refusedText 18)) ≡ Refusal (refusedLine 10 line)
+      go : (t : Bool) → pick t (read.Parcels (length ps)) read.Overfull ≡ read.BadLine line
+          → pick t (Some ps) (Refusal (refusedText 18)) ≡ Refusal (refusedLine 10 line)
       go true e = let z : _≡_ {A = ℕ} 0 1 = cc in absurd (omega arith)
       go false e = let z : _≡_ {A = ℕ} 0 1 = cc in absurd (omega arith)
 
@@ -154,7 +167,8 @@ gives-refusal {g} {room} {s} {out} {out′} {n} e w h = record {
   refused = λ k f. let same : n ≡ k = cc in ((s, e, subst (λ (q : ℕ). Wrote out 0 s out′ q) same w), omega arith);
 }
 
-pub answer-some : {g : Given} {ps out out′ m : List ℕ} {r : ℕ} (f : List ℕ → List ℕ) → g ≡ Some ps → out′ ≡ out → Wrote out′ 0 (f ps) m r → Wrote out 0 (answered f g) m r
+pub answer-some : {g : Given} {ps out out′ m : List ℕ} {r : ℕ} (f : List ℕ → List ℕ) → g ≡ Some ps → out′ ≡ out → Wrote out′ 0 (f ps) m r
+    → Wrote out 0 (answered f g) m r
 answer-some {g} {ps} {out} {out′} {m} {r} f e o w = subst (λ (d : List ℕ). Wrote d 0 (answered f g) m r) o (wrote-as (simp e) w)
 
 pub answer-refusal : {g : Given} {s out m : List ℕ} {r : ℕ} (f : List ℕ → List ℕ) → g ≡ Refusal s → Wrote out 0 s m r → Wrote out 0 (answered f g) m r

@@ -7,7 +7,8 @@ ghost use Rattle.text.specs.Digits.{digits};
 ghost use Rattle.text.specs.Report.{Wrote};
 ghost use Rattle.spelling.specs.Listing.{dataLine, lineOf, parcelsIn};
 ghost use Rattle.spelling.specs.Rows.{rowOf};
-ghost use Rattle.desk.specs.Desk.{Gives, calGiven, octalGiven, calOf, sheetWords, calWordsOf, listedIn, listingOf, blanks, column, oneParcel, twoParcels, wideLine};
+ghost use Rattle.desk.specs.Desk.{Gives, calGiven, octalGiven, calOf, sheetWords, calWordsOf, listedIn, listingOf, blanks, column};
+ghost use Rattle.desk.specs.Desk.{oneParcel, twoParcels, wideLine};
 use octal::Reading;
 use spelling::Assembled;
 use spelling::Listed;
@@ -105,7 +106,8 @@ fn put_listing(parcels: &[u16], out: &mut [u8]) -> usize
 
 // The answer of `listing`.
 pub fn listing(text: &[u8], parcels: &mut [u16], out: &mut [u8]) -> usize
-    ensures { λ r. ⌜ Wrote (now (out .entry)) 0 (listingOf (length (now (parcels .entry))) (length (now (out .entry))) (now (text .entry))) (now (out .exit)) r ⌝ }
+    ensures { λ r. ⌜ Wrote (now (out .entry)) 0 (listingOf (length (now (parcels .entry))) (length (now (out .entry))) (now (text .entry)))
+        (now (out .exit)) r ⌝ }
     ensures { λ r. ⌜ (272 ≤ length (now (out .entry)) → r ≤ length (now (out .entry))) ⌝ }
 {
     match read(text, parcels, out) {
@@ -194,7 +196,8 @@ fn put_data(out: &mut [u8], at: usize, x: u64) -> usize
 // The line of the first instruction of parcels, the first of which has an address.
 pub fn wide_line(parcels: &[u16], address: u64, out: &mut [u8]) -> Wide
     ensures { λ r. ⌜ Wrote (now (out .entry)) 0 (wideLine address (now (parcels .entry))) (now (out .exit)) (r .bytes) × (r .bytes ≤ 41) ⌝ }
-    ensures { λ r. ⌜ (r .parcels ≡ parcelsIn (now (parcels .entry))) × (r .parcels ≤ length (now (parcels .entry))) × (0 < length (now (parcels .entry)) → 0 < r .parcels) ⌝ }
+    ensures { λ r. ⌜ (r .parcels ≡ parcelsIn (now (parcels .entry))) × (r .parcels ≤ length (now (parcels .entry))) ×
+        (0 < length (now (parcels .entry)) → 0 < r .parcels) ⌝ }
 {
     if parcels.len() < 1 {
         return Wide {

@@ -131,7 +131,8 @@ pub fn load_package(r: &mut [u64], mem: &[u64], package: u64)
 pub fn swap(r: &mut [u64], mem: &mut [u64], p: ParcelAddr, flags: u64)
     requires { ⌜ (length (now r) ≡ 672) × (4096 ≤ length (now mem)) × (p .0 < 2 ^ 24) × (flags < 512) ⌝ }
     requires { ⌜ FrameOk (frameOf (now r)) × ControlOk (registersOf (now r)) ⌝ }
-    ensures { λ _. ⌜ out (Exchanged flags) (stateOf (now (r .exit))) (sharing (now (mem .exit))) ≡ exchange (frameOf (now (r .entry))) (registersOf (now (r .entry))) (p .0) flags (sharing (now (mem .entry))) ⌝ }
+    ensures { λ _. ⌜ out (Exchanged flags) (stateOf (now (r .exit))) (sharing (now (mem .exit)))
+        ≡ exchange (frameOf (now (r .entry))) (registersOf (now (r .entry))) (p .0) flags (sharing (now (mem .entry))) ⌝ }
 {
     let old = saved_words(r, p, flags);
     let new = access::words::sixteen(mem, chosen(old), false);

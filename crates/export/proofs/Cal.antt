@@ -24,7 +24,8 @@ assembled-kept : (text room : List ℕ) → kept (assembledNumbers (assembled te
 unfolding assembled roomAssembled
 assembled-kept text room = read (readOf text)
   where
-    fits : (ps : List ℕ) (t : Bool) → kept (assembledNumbers (pick t (Parcels (length ps)) Overfull)) (pick t (sets room 0 ps) room) room ≡ pick t (sets room 0 ps) room
+    fits : (ps : List ℕ) (t : Bool)
+        → kept (assembledNumbers (pick t (Parcels (length ps)) Overfull)) (pick t (sets room 0 ps) room) room ≡ pick t (sets room 0 ps) room
     fits ps true = refl
     fits ps false = refl
 
@@ -40,7 +41,8 @@ listed-kept : (parcels room : List ℕ) → kept (listedNumbers (listed parcels 
 unfolding listed roomListed
 listed-kept parcels room = fits (listOf parcels) (leb (length (listOf parcels)) (length room))
   where
-    fits : (bs : List ℕ) (t : Bool) → kept (listedNumbers (pick t (Bytes (length bs)) TooLong)) (pick t (sets room 0 bs) room) room ≡ pick t (sets room 0 bs) room
+    fits : (bs : List ℕ) (t : Bool)
+        → kept (listedNumbers (pick t (Bytes (length bs)) TooLong)) (pick t (sets room 0 bs) room) room ≡ pick t (sets room 0 bs) room
     fits bs true = refl
     fits bs false = refl
 

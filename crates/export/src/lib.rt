@@ -18,7 +18,8 @@ pub extern "C" fn pulxarrid_start(
     package: u64,
     processor: u64,
 ) -> u64
-    ensures { λ r. ⌜ left r (stateOf (now (state .exit)) ∷ []) [] ≡ afterStart (startCall (stateOf (now (state .entry))) (now (mem .entry)) «package» processor) ⌝ }
+    ensures { λ r. ⌜ left r (stateOf (now (state .exit)) ∷ []) []
+        ≡ afterStart (startCall (stateOf (now (state .entry))) (now (mem .entry)) «package» processor) ⌝ }
 {
     xmp::start(state, mem, package, processor)
 }

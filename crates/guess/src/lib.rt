@@ -3,7 +3,9 @@
 ghost use mathlib.Core.Path.{_≡_};
 ghost use Prim.Native.Nat.{_+_, _^_, _≤_, _<_};
 ghost use lib.ListN.{length, drop};
-ghost use Rattle.spelling.specs.Candidate.{bytesOf, told, lineAA, lineA, lineSS, lineS, lineVS, lineVV, lineVM, lineVi, lineV, lineE, lineC, jumps, lineJ, lineD, lineComma, lineSign, numberAt, codeRow, digitRow, rowSeen, planOf, planTable, digitAt, one as oneParcel, both, withNumber, guessWith, guessOf, packed};
+ghost use Rattle.spelling.specs.Candidate.{bytesOf, told, lineAA, lineA, lineSS, lineS, lineVS, lineVV, lineVM, lineVi, lineV, lineE};
+ghost use Rattle.spelling.specs.Candidate.{lineC, jumps, lineJ, lineD, lineComma, lineSign, numberAt, codeRow, digitRow, rowSeen, planOf};
+ghost use Rattle.spelling.specs.Candidate.{planTable, digitAt, one as oneParcel, both, withNumber, guessWith, guessOf, packed};
 
 // The plan of each row, eight numbers: the parcel without its operands; the places of the digits h, i, j and k in the line, 0 for
 // none; the place of its number, or else of the newline; how the number is read; 0. Row 107 is a line of data. The table has a row

@@ -11,7 +11,8 @@ use lib.Bits.{and-lt, or-lt, xor-lt}
 use lib.Count.{ones-le, leading-le}
 use lib.Pow.{pow-pos, pow-mono, pow-sub-lt, ones-lt, ones-sub-lt, shr-le}
 use borrow.Author.Tests.{eqb-false}
-use Rattle.machine.specs.Word.{pick, sum24, difference24, product24, sum64, difference64, merge, shiftLeft, shiftRight, shiftLeftPair, shiftRightPair, onesLeft, onesRight, parity, signed, minus24, minus64, lengthOf}
+use Rattle.machine.specs.Word.{pick, sum24, difference24, product24, sum64, difference64, merge, shiftLeft, shiftRight}
+use Rattle.machine.specs.Word.{shiftLeftPair, shiftRightPair, onesLeft, onesRight, parity, signed, minus24, minus64, lengthOf}
 use Rattle.machine.specs.Parcel.{iOf, jOf, kOf, jkOf, ijkmOf}
 use Rattle.machine.specs.State.{Registers, ai, ak, si, sj, sk, el, Put, Nothing, ToA, ToS, ToB, ToT, ToBs, ToTs, ToV, ToElement, ToVL, ToVM, ToXA, ToIOR, ToBDM}
 use Rattle.machine.specs.Act.{Instr, Act, Does, Goes, Reads, Writes, LeavesNormally, LeavesByError, branch, masked, marksOf, act}

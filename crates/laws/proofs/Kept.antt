@@ -15,7 +15,8 @@ use Rattle.machine.specs.declared.Last.{Last}
 use Rattle.machine.specs.declared.Last.the-variants as last
 use Rattle.machine.specs.Word.{pick}
 use Rattle.machine.specs.Parcel.{onward}
-use Rattle.machine.specs.State.{Frame, Registers, State, Shared, addr, user, si, Put, Nothing, ToA, ToS, ToB, ToT, ToBs, ToTs, ToV, ToElement, ToVL, ToVM, ToXA, ToIOR, ToBDM, apply}
+use Rattle.machine.specs.State.{Frame, Registers, State, Shared, addr, user, si, Put, Nothing, ToA, ToS, ToB}
+use Rattle.machine.specs.State.{ToT, ToBs, ToTs, ToV, ToElement, ToVL, ToVM, ToXA, ToIOR, ToBDM, apply}
 use Rattle.machine.specs.Memory.{dataField, load}
 use Rattle.machine.specs.Act.{Instr, Act, Does, Goes, Reads, Writes, LeavesNormally, LeavesByError, act}
 use Rattle.machine.specs.Work.{Done, perform, statusOf, workOf}
@@ -25,7 +26,8 @@ use Rattle.machine.specs.Run.{blankRegisters, blankFrame, startOf, Turned, turn
 use Rattle.machine.specs.Refusal.{below, stateFits, memoryFits, first, stepRefusal}
 use Rattle.access.specs.Executed.{FrameOk, ControlOk}
 use Rattle.access.proofs.Fits.{Fit, fit, fits}
-use Rattle.laws.proofs.Below.{picked, pick-lt, low, below-cons, below-set, below-getD, below-fill, below-ring, below-stores, below-eight, below-zeros, load-lt}
+use Rattle.laws.proofs.Below.{picked, pick-lt, low, below-cons, below-set, below-getD}
+use Rattle.laws.proofs.Below.{below-fill, below-ring, below-stores, below-eight, below-zeros, load-lt}
 use Rattle.laws.proofs.Acts.{ListsOk, PutOk, ActOk, act-ok}
 use Rattle.laws.proofs.Laws.{work-all, Narrow, work-p, work-ok, loaded-ok}
 

@@ -12,7 +12,8 @@ use Rattle.machine.specs.declared.Work.{Work}
 use Rattle.machine.specs.declared.Work.the-variants.{PastOne, PastTwo, To, NormalExit, ErrorExit, OperandRange, ProgramRange, NotHeld, MonitorFetch}
 use Rattle.machine.specs.declared.Answer.{Answer}
 use Rattle.machine.specs.Parcel.{wordOf, onward}
-use Rattle.machine.specs.State.{Frame, Registers, State, Shared, user, Put, Nothing, ToA, ToS, ToB, ToT, ToBs, ToTs, ToV, ToElement, ToVL, ToVM, ToXA, ToIOR, ToBDM, apply}
+use Rattle.machine.specs.State.{Frame, Registers, State, Shared, user, Put, Nothing, ToA, ToS, ToB, ToT}
+use Rattle.machine.specs.State.{ToBs, ToTs, ToV, ToElement, ToVL, ToVM, ToXA, ToIOR, ToBDM, apply}
 use Rattle.machine.specs.Memory.{Field, codeField, dataField, placeOf, load, storeAt, store, stores, parcelAt, fetchOf}
 use Rattle.machine.specs.Act.{Instr, Act, Does, Goes, Reads, Writes, LeavesNormally, LeavesByError, act}
 use Rattle.machine.specs.Codes.{Code, None, One, Two, codeOf}

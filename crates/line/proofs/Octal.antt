@@ -144,7 +144,8 @@ wrote-data {d} {m₁} {m₂} {m₃} {at} x a b c =
     digits-two 4 x ∙ rw (digits-two 2 (x / 64), e) in
     let name : Wrote d at (signs "data=") (set (set (set (set (set d at 100) (at + 1) 97) (at + 2) 116) (at + 3) 97) (at + 4) 61) (at + 5) =
     placed
-    (then-at (then-at (then-at (then (wrote-byte refl) (wrote-byte refl)) (wrote-byte refl) (omega arith)) (wrote-byte refl) (omega arith)) (wrote-byte refl) (omega arith))
+    (then-at (then-at (then-at (then (wrote-byte refl) (wrote-byte refl)) (wrote-byte refl) (omega arith)) (wrote-byte refl) (omega arith))
+    (wrote-byte refl) (omega arith))
     (omega arith) in
     wrote-as (ap (λ (l : List ℕ). signs "data=" ++ l ++ (10 ∷ [])) six)
     (placed (then-at (then name (then-at (then-at a b (omega arith)) c (omega arith))) (wrote-byte refl) (omega arith)) (omega arith))

@@ -7,7 +7,8 @@ ghost use Rattle.text.specs.Digits.{glyphOf, digits, shown};
 ghost use Rattle.text.specs.Report.{Wrote};
 ghost use Rattle.spelling.specs.Words.{fieldsOf, operandBy, operandText};
 ghost use Rattle.spelling.specs.Listing.{dataLine, lineOf};
-ghost use Rattle.spelling.specs.Rows.{within, row0014, row001, row002, row023, plainRows, rowBy, rowOf, secondRow, codeAt, formTable, operandTable, instructionBy, signsOf, afterSigns, Ends, spelledOf, Small, Ready};
+ghost use Rattle.spelling.specs.Rows.{within, row0014, row001, row002, row023, plainRows, rowBy, rowOf, secondRow, codeAt, formTable};
+ghost use Rattle.spelling.specs.Rows.{operandTable, instructionBy, signsOf, afterSigns, Ends, spelledOf, Small, Ready};
 ghost use Rattle.spelling.specs.declared.Operand.the-variants.{Register, Indexed};
 use spelling::Instruction;
 use spelling::Operand;
@@ -693,7 +694,8 @@ fn put_signs(line: &mut [u8], at: usize, forms: &[u8; 1284], from: usize) -> Cut
 
 // An operand, and the signs after it.
 fn put_part(line: &mut [u8], forms: &[u8; 1284], cut: Cut, op: Operand) -> Cut
-    requires { ⌜ Ends (drop (cut .from) (now forms)) × Small op × (cut .at + length (operandText op ++ signsOf (drop (cut .from) (now forms))) ≤ length (now line)) × (length (now forms) ≡ 1284) ⌝ }
+    requires { ⌜ Ends (drop (cut .from) (now forms)) × Small op ×
+        (cut .at + length (operandText op ++ signsOf (drop (cut .from) (now forms))) ≤ length (now line)) × (length (now forms) ≡ 1284) ⌝ }
     ensures { λ r. ⌜ Wrote (now (line .entry)) (cut .at) (operandText op ++ signsOf (drop (cut .from) (now (forms .entry)))) (now (line .exit)) (r .at) ⌝ }
     ensures { λ r. ⌜ drop (r .from) (now (forms .entry)) ≡ afterSigns (drop (cut .from) (now (forms .entry))) ⌝ }
 {
@@ -760,7 +762,8 @@ pub fn put_line(
     x: u64,
     m: u64,
 ) -> usize
-    requires { ⌜ (at + length (lineOf x m) ≤ length (now line)) × (row ≡ rowOf x) × (x < 65536) × (m < 65536) × (now forms ≡ formTable) × (now operands ≡ operandTable) ⌝ }
+    requires { ⌜ (at + length (lineOf x m) ≤ length (now line)) × (row ≡ rowOf x) × (x < 65536) × (m < 65536) × (now forms ≡ formTable) ×
+        (now operands ≡ operandTable) ⌝ }
     ensures { λ r. ⌜ Wrote (now (line .entry)) at (lineOf x m) (now (line .exit)) r × (at + 2 ≤ r) × (r ≤ at + 16) ⌝ }
 {
     if row == 0 {

@@ -39,7 +39,8 @@ module _ (n : Instr) (count by : ℕ) (r mem : List ℕ) (first words x : ℕ) (
       → Puts r r′ (put (λ e. loadAt mem (rowIn first words (ai (registersOf r) 0) by e))) → Moved o r r′ mem mem x
   unfolding load
   row-read put r′ a i k p w e =
-      let t = subst (λ (row : ℕ → Place). Puts r r′ (put (λ e. loadAt mem (row e)))) (row-of (frameOf r) first words (length mem) h (ai (registersOf r) 0) by) k in
+      let t = subst (λ (row : ℕ → Place). Puts r r′ (put (λ e. loadAt mem (row e))))
+      (row-of (frameOf r) first words (length mem) h (ai (registersOf r) 0) by) k in
       one w r r′ mem mem p x n held (k .frame) (rw (a p) (reads w r r′ mem 1 count at put o e t (i (λ e. load (dataField (frameOf r)) mem (at e))) beyond))
 
   -- they are stored
@@ -139,7 +140,8 @@ stores-same at f g (suc n) mem h = rw (stores-same at f g n mem (λ e l. h e (om
 -- 176 and 177: the elements of a V register
 module _ (r mem : List ℕ) (first words x : ℕ) (o : Bool) (h : Window (frameOf r) first words (length mem)) (short : registersOf r .vl ≤ 64) where
   pub vector-read : (r′ : List ℕ) → x / 512 ≡ 0o176 → jOf x ≡ 0
-      → ReadRow r r′ mem first words (ai (registersOf r) 0) (ak (registersOf r) (kOf x)) (160 + iOf x * 64) 0 (registersOf r .vl) false o → Moved o r r′ mem mem x
+      → ReadRow r r′ mem first words (ai (registersOf r) 0) (ak (registersOf r) (kOf x)) (160 + iOf x * 64) 0 (registersOf r .vl) false o
+      → Moved o r r′ mem mem x
   unfolding codeOf act apply
   vector-read r′ e z g =
       let f : ℕ → ℕ = λ i. loadAt mem (rowIn first words (ai (registersOf r) 0) (ak (registersOf r) (kOf x)) i) in
@@ -152,7 +154,8 @@ module _ (r mem : List ℕ) (first words x : ℕ) (o : Bool) (h : Window (frameO
       → StoredRow r mem mem′ first words (ai (registersOf r) 0) (ak (registersOf r) (kOf x)) (160 + jOf x * 64) 0 (registersOf r .vl) o → Moved o r r mem mem′ x
   unfolding codeOf act
   vector-stored mem′ e z g =
-      row-stored StoreV (registersOf r .vl) (ak (registersOf r) (kOf x)) r mem first words x o h (rw (e, z)) (g .beyond) (λ i. el (registersOf r .v) (jOf x) i) mem′
+      row-stored StoreV (registersOf r .vl) (ak (registersOf r) (kOf x)) r mem first words x o h (rw (e, z)) (g .beyond)
+      (λ i. el (registersOf r .v) (jOf x) i) mem′
       (λ p. refl) (g .became ∙ stores-same _ _ _ (registersOf r .vl) mem same)
     where
       same : (i : ℕ) → i < registersOf r .vl → getD r (160 + jOf x * 64 + (0 + i) % 64) 0 ≡ el (registersOf r .v) (jOf x) i

@@ -46,7 +46,8 @@ unfolding storesAt
 stores-turn at val e m₀ m m′ p q = rw add-one (rw (q, p))
 
 -- n places more
-pub fill-more : (at : ℕ) (f g : ℕ → ℕ) (m : ℕ) (l : List ℕ) (n : ℕ) → ((i : ℕ) → i < n → g i ≡ f (m + i)) → fill (at + m) g n (fill at f m l) ≡ fill at f (m + n) l
+pub fill-more : (at : ℕ) (f g : ℕ → ℕ) (m : ℕ) (l : List ℕ) (n : ℕ) → ((i : ℕ) → i < n → g i ≡ f (m + i))
+    → fill (at + m) g n (fill at f m l) ≡ fill at f (m + n) l
 unfolding fill
 fill-more at f g m l zero h = let e : m + 0 ≡ m = omega arith in rw e
 fill-more at f g m l (suc n) h =

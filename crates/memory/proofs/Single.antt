@@ -97,7 +97,8 @@ module _ (file : File) (w : Work) (r mem : List ℕ) (f : Reach) (p x m n : ℕ)
       two w r r′ mem mem p x (loading file) m (load-code file (user (frameOf r)) x c) second (k .frame) (rw (load-act file (registersOf r) _ x m _)
       (reads w r r′ mem 2 1 (λ e. address) (λ word. toRegister file (iOf x) (word 0)) o e t (load-ior file (iOf x) _ (registersOf r)) single))
 
-  pub stored : (mem′ : List ℕ) → x / 512 / 8 ≡ storeCode file → mem′ ≡ storeAt mem (placeIn (f .operands) (f .words) n) (registerOf file (registersOf r) (iOf x))
+  pub stored : (mem′ : List ℕ) → x / 512 / 8 ≡ storeCode file
+      → mem′ ≡ storeAt mem (placeIn (f .operands) (f .words) n) (registerOf file (registersOf r) (iOf x))
       → w ≡ ranged (user (frameOf r)) (registersOf r .ior) 2 o → Executes w r r mem mem′ p x
   unfolding store stores
   stored mem′ c g e =

@@ -82,12 +82,20 @@ fn straight(words: u64, row: Row, from: u64) -> usize
 pub fn read(r: &mut [u64], mem: &[u64], first: usize, words: u64, row: Row, narrow: bool) -> bool
     requires { ⌜ (length (now r) ≡ 672) × (row .file + 64 ≤ 672) × (row .reg < 64) × (row .n < 128) ⌝ }
     requires { ⌜ Held first words (length (now mem)) ⌝ }
-    ensures { λ o. ⌜ ReadRow (now (r .entry)) (now (r .exit)) (now (mem .entry)) first words (ai (registersOf (now (r .entry))) 0) (row .by) (row .file) (row .reg) (row .n) narrow o ⌝ }
+    ensures { λ o. ⌜ ReadRow (now (r .entry)) (now (r .exit)) (now (mem .entry)) first words (ai (registersOf (now (r .entry))) 0)
+        (row .by) (row .file) (row .reg) (row .n) narrow o ⌝ }
 {
     let from = access::a_0(r);
     let whole = straight(words, row, from);
     let w = access::word_at(from);
-    copy(r, row.file + row.reg, mem, first + w.0 as usize, whole, narrow);
+    copy(
+        r,
+        row.file + row.reg,
+        mem,
+        first + w.0 as usize,
+        whole,
+        narrow,
+    );
     let mut outside = false;
     let mut at = std::num::wrapping_add_u64(from, whole as u64);
     let mut e = whole;
@@ -105,12 +113,20 @@ pub fn read(r: &mut [u64], mem: &[u64], first: usize, words: u64, row: Row, narr
 pub fn store(r: &[u64], mem: &mut [u64], first: usize, words: u64, row: Row) -> bool
     requires { ⌜ (length (now r) ≡ 672) × (row .file + 64 ≤ 672) × (row .reg < 64) × (row .n < 128) ⌝ }
     requires { ⌜ Held first words (length (now mem)) ⌝ }
-    ensures { λ o. ⌜ StoredRow (now (r .entry)) (now (mem .entry)) (now (mem .exit)) first words (ai (registersOf (now (r .entry))) 0) (row .by) (row .file) (row .reg) (row .n) o ⌝ }
+    ensures { λ o. ⌜ StoredRow (now (r .entry)) (now (mem .entry)) (now (mem .exit)) first words (ai (registersOf (now (r .entry))) 0)
+        (row .by) (row .file) (row .reg) (row .n) o ⌝ }
 {
     let from = access::a_0(r);
     let whole = straight(words, row, from);
     let w = access::word_at(from);
-    copy(mem, first + w.0 as usize, r, row.file + row.reg, whole, false);
+    copy(
+        mem,
+        first + w.0 as usize,
+        r,
+        row.file + row.reg,
+        whole,
+        false,
+    );
     let mut outside = false;
     let mut at = std::num::wrapping_add_u64(from, whole as u64);
     let mut e = whole;

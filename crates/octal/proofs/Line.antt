@@ -81,7 +81,8 @@ module _ (text : List ℕ) (at : ℕ) where
 
 -- parcels stored: n of them, of which i are stored
 module _ (text room : List ℕ) (n i at : ℕ) where
-  pub store-next : (p : ℕ) → i < n → p ≡ parcelAt text at → sets room i (parcelsFrom (n - i) text at) ≡ sets (set room i p) (i + 1) (parcelsFrom (n - (i + 1)) text (at + 7))
+  pub store-next : (p : ℕ) → i < n → p ≡ parcelAt text at
+      → sets room i (parcelsFrom (n - i) text at) ≡ sets (set room i p) (i + 1) (parcelsFrom (n - (i + 1)) text (at + 7))
   unfolding parcelsFrom
   store-next p more e = rw (left-suc n i more, e, add-one i)
 

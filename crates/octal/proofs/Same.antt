@@ -77,7 +77,8 @@ module _ (text : List ℕ) where
   unfolding badLine
   good-next most at line some here e = go (parcelLine text at) refl (simp (lt-ltb at (length text) here) at e)
     where
-      go : (t : Bool) → parcelLine text at ≡ t → pick t (badLine most text (at + 7) (line + 1)) line ≡ 0 → (parcelLine text at ≡ true) × (badLine most text (at + 7) (line + 1) ≡ 0)
+      go : (t : Bool) → parcelLine text at ≡ t → pick t (badLine most text (at + 7) (line + 1)) line ≡ 0 → (parcelLine text at ≡ true)
+          × (badLine most text (at + 7) (line + 1) ≡ 0)
       go true f g = (f, g)
       go false f g = absurd (omega arith)
 

@@ -17,7 +17,8 @@ pub extern "C" fn pulxarrid_pair_run(
     report: &mut [u64; 3],
 ) -> u64
     ensures { λ r. ⌜ left r (firstOf (now (pair .exit)) ∷ secondOf (now (pair .exit)) ∷ []) (now (mem .exit) ∷ now (report .exit) ∷ [])
-        ≡ afterPair (now (report .entry)) (pairCall (firstOf (now (pair .entry))) (secondOf (now (pair .entry))) (sharing (now (mem .entry))) (now (schedule .entry))) ⌝ }
+        ≡ afterPair (now (report .entry))
+        (pairCall (firstOf (now (pair .entry))) (secondOf (now (pair .entry))) (sharing (now (mem .entry))) (now (schedule .entry))) ⌝ }
 {
     let paired = xmp::pair_run(pair, mem, schedule);
     let last = paired.last;

@@ -38,7 +38,8 @@ goodRow r =
     fitting words && (seenAs ws r && (planRight plan ws && alike (secondRow r) (ofTwo (getD plan 6 0))))
 
 all-rows : every (λ r. let good = goodRow r in pick (eqb r 0) true good) 107 ≡ true
-unfolding every simple fitting leads endsAs from fieldMost same alike secondRow planOf placeOf numberPlace numberCode codeRow rowWords wordsOf codeOf code001 code002 spelling passing
+unfolding every simple fitting leads endsAs from fieldMost same alike secondRow planOf placeOf numberPlace numberCode codeRow rowWords
+    wordsOf codeOf code001 code002 spelling passing
 all-rows = refl
 
 -- what that says
@@ -78,12 +79,14 @@ unfolding every rowBy within row001 row0014 row002 row023
 all-settled j k = refl
 
 all-plain : every (λ c. every (λ i. let t = back (rowBy c i 0 0) (λ f. every (λ y. f (c * 512 + i * 64 + y)) 64) in pick (special c) true t) 8) 128 ≡ true
-unfolding every simple from planOf placeOf numberPlace numberCode rowBy within row001 row0014 row002 row023 rowWords wordsOf codeOf code001 code002 spelling passing
+unfolding every simple from planOf placeOf numberPlace numberCode rowBy within row001 row0014 row002 row023 rowWords wordsOf codeOf code001
+    code002 spelling passing
 all-plain = refl
 
 -- each parcel of a special code
 all-special : every (λ c. let t = every (λ y. let x = c * 512 + y in back (rowOf x) (λ f. f x)) 512 in pick (special c) t true) 128 ≡ true
-unfolding every simple from planOf placeOf numberPlace numberCode rowOf rowBy within row001 row0014 row002 row023 rowWords wordsOf codeOf code001 code002 spelling passing
+unfolding every simple from planOf placeOf numberPlace numberCode rowOf rowBy within row001 row0014 row002 row023 rowWords wordsOf codeOf
+    code001 code002 spelling passing
 all-special = refl
 
 tried-back : (r x : ℕ) (tried : (ℕ → Bool) → Bool) → ((f : ℕ → Bool) → tried f ≡ true → f x ≡ true) → eqb r 0 ≡ false → back r tried ≡ true → sumOf r x ≡ x
@@ -105,7 +108,8 @@ module _ (x : ℕ) (below : x < 65536) (spelled : eqb (rowOf x) 0 ≡ false) whe
       let good = asked _ _ e (every-at _ 8 (every-at _ 128 all-plain c c-below) i i-below) in
       let some : eqb (rowBy c i 0 0) 0 ≡ false = ap (λ (r : ℕ). eqb r 0) (sym settled) ∙ spelled in
       rw settled
-      (tried-back (rowBy c i 0 0) x (λ f. every (λ y. f (zeroth + y)) 64) (λ f t. subst (λ (y : ℕ). f y ≡ true) is (every-at _ 64 t (x % 64) (omega arith))) some good)
+      (tried-back (rowBy c i 0 0) x (λ f. every (λ y. f (zeroth + y)) 64)
+      (λ f t. subst (λ (y : ℕ). f y ≡ true) is (every-at _ 64 t (x % 64) (omega arith))) some good)
 
   special-back : special (x / 512) ≡ true → sumOf (rowOf x) x ≡ x
   special-back e =

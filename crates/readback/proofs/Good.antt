@@ -92,7 +92,8 @@ stands-good {s} {ps} {rest} (one {x = x} below no-second e) =
     by-one s (guessOf s) x first no-second ∙ is-line s (lineOf x 0) (x ∷ []) rest e
 stands-good {s} {ps} {rest} (two {x = x} {m = m} below m-below is e) =
     let g = ap guessOf e ∙ line-two x m below m-below rest is in
-    by-two s (guessOf s) x (ap (λ (g : Guess). g .first) g) m (ap (λ (g : Guess). g .second) g) (ap (λ (g : Guess). g .two) g) is ∙ is-line s (lineOf x m) (x ∷ m ∷ []) rest e
+    by-two s (guessOf s) x (ap (λ (g : Guess). g .first) g) m (ap (λ (g : Guess). g .second) g) (ap (λ (g : Guess). g .two) g) is
+    ∙ is-line s (lineOf x m) (x ∷ m ∷ []) rest e
 stands-good {s} (last {x = x} below is e) =
     let split : s ≡ dataLine x ++ [] = e ∙ sym (append-nil (dataLine x)) in
     let guess = data-guess x below [] in
@@ -142,5 +143,6 @@ stands-guess {s} (last {x = x} below is e) =
     let split : s ≡ dataLine x ++ [] = e ∙ sym (append-nil (dataLine x)) in
     rw split (tells-one (guessOf (dataLine x ++ [])) (dataLine x) [] x (data-guess x below []))
 
-pub guess-read : (s ps rest : List ℕ) → readLine s ≡ Good ps rest → (ps ≡ parcelsOf (guessOf s)) × (rest ≡ drop (guessOf s .length) s) × (guessOf s .length ≤ length s)
+pub guess-read : (s ps rest : List ℕ) → readLine s ≡ Good ps rest → (ps ≡ parcelsOf (guessOf s)) × (rest ≡ drop (guessOf s .length) s)
+    × (guessOf s .length ≤ length s)
 guess-read s ps rest h = stands-guess (good-stands s ps rest h)

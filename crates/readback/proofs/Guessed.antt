@@ -88,7 +88,8 @@ module _ (x : ℕ) (below : x < 65536) (rest : List ℕ) where
       rw (data-row, data-number, data-length x)
       (record { first = omega arith; second = λ is. cc; two = refl; size = refl })
 
-  pub data-guess : (guessOf (dataLine x ++ rest) .first ≡ x) × (guessOf (dataLine x ++ rest) .two ≡ false) × (guessOf (dataLine x ++ rest) .length ≡ length (dataLine x))
+  pub data-guess : (guessOf (dataLine x ++ rest) .first ≡ x) × (guessOf (dataLine x ++ rest) .two ≡ false)
+      × (guessOf (dataLine x ++ rest) .length ≡ length (dataLine x))
   data-guess = let g = data-right 0 in (g .first, g .two, g .size)
 
 -- the line of any parcel
@@ -112,5 +113,6 @@ module _ (x m : ℕ) (x-below : x < 65536) (m-below : m < 65536) (rest : List �
       let two = line-right .two ∙ is in
       λ i. record { first = line-right .first i; second = second i; two = two i; length = line-right .size i }
 
-  pub line-one : second x ≡ false → (guessOf (lineOf x m ++ rest) .first ≡ x) × (guessOf (lineOf x m ++ rest) .two ≡ false) × (guessOf (lineOf x m ++ rest) .length ≡ length (lineOf x m))
+  pub line-one : second x ≡ false → (guessOf (lineOf x m ++ rest) .first ≡ x) × (guessOf (lineOf x m ++ rest) .two ≡ false)
+      × (guessOf (lineOf x m ++ rest) .length ≡ length (lineOf x m))
   line-one is = (line-right .first, line-right .two ∙ is, line-right .size)

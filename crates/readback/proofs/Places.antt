@@ -84,12 +84,14 @@ module _ (x m : ℕ) where
       go false is e later = let z : _≡_ {A = ℕ} 0 1 = cc in absurd (omega arith)
 
   -- the first byte there
-  first-there : (ws rest : List ℕ) (p v : ℕ) (vs : List ℕ) → from ws p ≡ v ∷ vs → getD (textOf ws x m ++ rest) p 10 ≡ getD (wordText v x m ++ (textOf vs x m ++ rest)) 0 10
+  first-there : (ws rest : List ℕ) (p v : ℕ) (vs : List ℕ) → from ws p ≡ v ∷ vs
+      → getD (textOf ws x m ++ rest) p 10 ≡ getD (wordText v x m ++ (textOf vs x m ++ rest)) 0 10
   unfolding textOf
   first-there ws rest p v vs e =
       let place : p + 0 ≡ p = omega arith in
       let here : getD (textOf ws x m ++ rest) (p + 0) 10 ≡ getD (textOf (v ∷ vs) x m ++ rest) 0 10 = past-byte (from-place ws p v vs e) rest 0 in
-      ap (λ (q : ℕ). getD (textOf ws x m ++ rest) q 10) (sym place) ∙ here ∙ ap (λ (l : List ℕ). getD l 0 10) (append-assoc (wordText v x m) (textOf vs x m) rest)
+      ap (λ (q : ℕ). getD (textOf ws x m ++ rest) q 10) (sym place) ∙ here
+      ∙ ap (λ (l : List ℕ). getD l 0 10) (append-assoc (wordText v x m) (textOf vs x m) rest)
 
   -- it is known of a word of one byte
   pub byte-at : (ws rest : List ℕ) (p : ℕ) → ltb (wordAt ws p) 133 ≡ true → getD (textOf ws x m ++ rest) p 10 ≡ byteOf (wordAt ws p) x
@@ -131,7 +133,8 @@ module _ (x m : ℕ) where
   value-below h w = let most = field-most (w - 128) x m h in go (eqb w 149) (most .0, most .1, most .2)
     where
       go : (b : Bool) → (0 < fieldMost (w - 128)) × (fieldMost (w - 128) ≤ 8) × (fieldOf (w - 128) x m < 8 ^ fieldMost (w - 128))
-          → (0 < pick b 3 (fieldMost (w - 128))) × (pick b 3 (fieldMost (w - 128)) ≤ 8) × (pick b (64 - jkOf x) (fieldOf (w - 128) x m) < 8 ^ pick b 3 (fieldMost (w - 128)))
+          → (0 < pick b 3 (fieldMost (w - 128))) × (pick b 3 (fieldMost (w - 128)) ≤ 8)
+          × (pick b (64 - jkOf x) (fieldOf (w - 128) x m) < 8 ^ pick b 3 (fieldMost (w - 128)))
       go true l = omega arith
       go false l = l
 

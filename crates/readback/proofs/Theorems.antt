@@ -13,7 +13,8 @@ use Rattle.machine.specs.Word.{pick}
 use Rattle.spelling.specs.Spelling.{second}
 use Rattle.spelling.specs.Listing.{dataLine, lineOf, listOf, listed, roomListed, listedNumbers}
 use Rattle.spelling.specs.Candidate.{Guess, guessOf}
-use Rattle.spelling.specs.Assembling.{lineLength, Good, Bad, readLine, Reading, All, Wrong, readOf, assembledTo, roomAfter, assembled, roomAssembled, assembledNumbers}
+use Rattle.spelling.specs.Assembling.{lineLength, Good, Bad, readLine, Reading, All, Wrong}
+use Rattle.spelling.specs.Assembling.{readOf, assembledTo, roomAfter, assembled, roomAssembled, assembledNumbers}
 use Rattle.spelling.specs.declared.Assembled.{Assembled}
 use Rattle.spelling.specs.declared.Assembled.the-variants.{Parcels, Overfull}
 use Rattle.spelling.specs.declared.Listed.{Listed}
@@ -44,7 +45,8 @@ module _ (x m y n : ℕ) (x-below : x < 65536) (m-below : m < 65536) (y-below : 
   pub same-second : second x ≡ true → m ≡ n
   same-second is =
       let also : second y ≡ true = ap second (sym same-first) ∙ is in
-      sym (ap (λ (g : Guess). g .second) (line-two x m x-below m-below [] is)) ∙ ap (λ (l : List ℕ). guessOf (l ++ []) .second) e ∙ ap (λ (g : Guess). g .second) (line-two y n y-below n-below [] also)
+      sym (ap (λ (g : Guess). g .second) (line-two x m x-below m-below [] is)) ∙ ap (λ (l : List ℕ). guessOf (l ++ []) .second) e
+      ∙ ap (λ (g : Guess). g .second) (line-two y n y-below n-below [] also)
 
 -- a line is read exactly if it stands for parcels, and as those; it is bad exactly if it stands for none
 pub line-read : (s ps rest : List ℕ) → (readLine s ≡ Good ps rest) ↔ Stands s ps rest

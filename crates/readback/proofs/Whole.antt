@@ -92,7 +92,8 @@ read-lists (suc most) [] ps e = none-lists (suc most) ps e
 read-lists zero (b ∷ s) ps e = let n = read-out b s in let z : _≡_ {A = ℕ} 0 1 = cc in absurd (omega arith)
 read-lists (suc most) (b ∷ s) ps e = go (readLine (b ∷ s)) refl (read-lists most) (sym (read-some most b s) ∙ e)
   where
-    go : (l : Line) → readLine (b ∷ s) ≡ l → ((rest ts : List ℕ) → readFrom most rest ≡ All ts → Lists ts rest) → onLine l (readFrom most) ≡ All ps → Lists ps (b ∷ s)
+    go : (l : Line) → readLine (b ∷ s) ≡ l → ((rest ts : List ℕ) → readFrom most rest ≡ All ts → Lists ts rest)
+        → onLine l (readFrom most) ≡ All ps → Lists ps (b ∷ s)
     go Bad is ih h = let z : _≡_ {A = ℕ} 0 1 = cc in absurd (omega arith)
     go (Good qs rest) is ih h = on (readFrom most rest) refl h
       where
@@ -106,7 +107,8 @@ read-lists (suc most) (b ∷ s) ps e = go (readLine (b ∷ s)) refl (read-lists 
             rw (← same) (stands-lists stands ts (others .0) empty, stands-below stands ts (others .1))
 
 -- parcels listed are read back
-read-stands : {s ps rest : List ℕ} (most : ℕ) → Stands s ps rest → length s ≤ most → (qs : List ℕ) → ((k : ℕ) → length rest ≤ k → readFrom k rest ≡ All qs) → readFrom most s ≡ All (ps ++ qs)
+read-stands : {s ps rest : List ℕ} (most : ℕ) → Stands s ps rest → length s ≤ most → (qs : List ℕ)
+    → ((k : ℕ) → length rest ≤ k → readFrom k rest ≡ All qs) → readFrom most s ≡ All (ps ++ qs)
 read-stands zero stands l qs after = let less = stands-longer stands in absurd (omega arith)
 read-stands {s} {ps} {rest} (suc most) stands l qs after = let less = stands-longer stands in read-line most stands ∙ ap (before ps) (after most (omega arith))
 
@@ -132,7 +134,8 @@ wrong-broken (suc most) [] n l e = let nothing = read-none (suc most) in let z :
 wrong-broken zero (b ∷ s) n l e = absurd (omega arith)
 wrong-broken (suc most) (b ∷ s) n l e = go (readLine (b ∷ s)) refl (wrong-broken most) (sym (read-some most b s) ∙ e)
   where
-    go : (l : Line) → readLine (b ∷ s) ≡ l → ((rest : List ℕ) (k : ℕ) → length rest ≤ most → readFrom most rest ≡ Wrong k → Broken k rest) → onLine l (readFrom most) ≡ Wrong n → Broken n (b ∷ s)
+    go : (l : Line) → readLine (b ∷ s) ≡ l → ((rest : List ℕ) (k : ℕ) → length rest ≤ most → readFrom most rest ≡ Wrong k → Broken k rest)
+        → onLine l (readFrom most) ≡ Wrong n → Broken n (b ∷ s)
     go Bad is ih h =
         let first : Broken 0 (b ∷ s) = record { rest = b ∷ s; lines = none; some = omega arith; bad = λ ps rest. bad-stands is } in
         let e : 0 ≡ n = cc in

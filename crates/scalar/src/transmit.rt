@@ -24,7 +24,8 @@ pub fn from_a(r: &mut [u64], x: u64) -> Work
 // The status word from its fields; the highest bit is set where the cluster is not 0.
 fn status_of(ps: u64, fps: u64, ifp: u64, ior: u64, bdm: u64, processor: u64, cln: u64) -> u64
     requires { ⌜ (ps < 2) × (fps < 2) × (ifp < 2) × (ior < 2) × (bdm < 2) × (processor < 2) × (cln < 4) ⌝ }
-    ensures { λ y. ⌜ y ≡ pick (eqb cln 0) 0 (2 ^ 63) + ps * 2 ^ 57 + fps * 2 ^ 51 + ifp * 2 ^ 50 + ior * 2 ^ 49 + bdm * 2 ^ 48 + processor * 2 ^ 40 + cln * 2 ^ 32 ⌝ }
+    ensures { λ y. ⌜ y ≡ pick (eqb cln 0) 0 (2 ^ 63)
+        + ps * 2 ^ 57 + fps * 2 ^ 51 + ifp * 2 ^ 50 + ior * 2 ^ 49 + bdm * 2 ^ 48 + processor * 2 ^ 40 + cln * 2 ^ 32 ⌝ }
 {
     let fields = ps * (1 << 57)
         + fps * (1 << 51)

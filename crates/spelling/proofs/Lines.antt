@@ -142,9 +142,11 @@ pub row-made : (r x m : ℕ) → rowIn (instructionOf r x m) ≡ r
 unfolding instructionBy withCodes rowIn
 row-made r x m =
     go (eqb (codeAt r 0) 0) (eqb (codeAt r 1) 0) (eqb (codeAt r 2) 0) (eqb (codeAt r 3) 0)
-    (operandBy (codeAt r 0) (fieldsOf x m)) (operandBy (codeAt r 1) (fieldsOf x m)) (operandBy (codeAt r 2) (fieldsOf x m)) (operandBy (codeAt r 3) (fieldsOf x m))
+    (operandBy (codeAt r 0) (fieldsOf x m)) (operandBy (codeAt r 1) (fieldsOf x m)) (operandBy (codeAt r 2) (fieldsOf x m))
+    (operandBy (codeAt r 3) (fieldsOf x m))
   where
-    go : (a b c d : Bool) (p q s t : Operand) → rowIn (pick a (Bare r) (pick b (OfOne r p) (pick c (OfTwo r p q) (pick d (OfThree r p q s) (OfFour r p q s t))))) ≡ r
+    go : (a b c d : Bool) (p q s t : Operand)
+        → rowIn (pick a (Bare r) (pick b (OfOne r p) (pick c (OfTwo r p q) (pick d (OfThree r p q s) (OfFour r p q s t))))) ≡ r
     go true b c d p q s t = refl
     go false true c d p q s t = refl
     go false false true d p q s t = refl

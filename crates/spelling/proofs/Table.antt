@@ -115,7 +115,8 @@ right-at x h = go (leb 16 (x / 512)) (leb 9 (placeIn others (x / 512))) refl ref
         let few : placeIn others (x / 512) < 9 = leb-false 9 (placeIn others (x / 512)) f in
         other-right x (placeIn others (x / 512)) few (sym (place-right others (x / 512) few))
     go true true e f =
-        let every-c = every-at (λ c. let r = right c (iOf x) (jOf x) (kOf x) x in pick (plain c) r true) 128 (all-plain (iOf x) (jOf x) (kOf x) x) (x / 512) (omega arith) in
+        let every-c = every-at (λ c. let r = right c (iOf x) (jOf x) (kOf x) x in pick (plain c) r true) 128
+        (all-plain (iOf x) (jOf x) (kOf x) x) (x / 512) (omega arith) in
         simp (e, f) at every-c
 
 module _ (x : ℕ) (h : x < 65536) where

@@ -30,7 +30,8 @@ list-next [] h = absurd (omega arith)
 list-next (x ∷ []) h = sym (append-nil _)
 list-next (x ∷ m ∷ ps) h = go (second x)
   where
-    go : (b : Bool) → pick b (lineOf x m ++ listOf ps) (lineOf x 0 ++ listOf (m ∷ ps)) ≡ pick b (lineOf x m) (lineOf x 0) ++ listOf (drop (pick b 2 1) (x ∷ m ∷ ps))
+    go : (b : Bool)
+        → pick b (lineOf x m ++ listOf ps) (lineOf x 0 ++ listOf (m ∷ ps)) ≡ pick b (lineOf x m) (lineOf x 0) ++ listOf (drop (pick b 2 1) (x ∷ m ∷ ps))
     go true = refl
     go false = refl
 
@@ -166,7 +167,8 @@ quiet-operand c x m n = go (eqb (c / 8) 0) (eqb (c / 8) 1) (eqb (c / 8) 2)
         (64 - fieldOf (c % 8) x m)) (Register (c / 8) (fieldOf (c % 8) x m) (eqb (c % 8) 5))))))
     go true b d = quiet-number (fieldOf (c % 8) x m)
     go false true d =
-        quiet-append (shown 8 1 (fieldOf (c % 8) x m)) (44 ∷ 65 ∷ shown 8 1 (x / 512 % 8)) (quiet-number (fieldOf (c % 8) x m)) ((λ e. omega arith), ((λ e. omega arith), quiet-number (x / 512 % 8)))
+        quiet-append (shown 8 1 (fieldOf (c % 8) x m)) (44 ∷ 65 ∷ shown 8 1 (x / 512 % 8)) (quiet-number (fieldOf (c % 8) x m))
+        ((λ e. omega arith), ((λ e. omega arith), quiet-number (x / 512 % 8)))
     go false false true = quiet-number (64 - fieldOf (c % 8) x m)
     go false false false = (eqb-false (c / 8) 10 n, quiet-digits (pick (eqb (c % 8) 5) 2 1) (fieldOf (c % 8) x m))
 

@@ -8,7 +8,14 @@ use lib.Dec.{eqb, ltb}
 use Rattle.machine.specs.Word.{pick}
 use Rattle.machine.specs.Parcel.{hOf, iOf, jOf, kOf, jkOf}
 use Rattle.machine.specs.Codes.{Code, None, One, Two, codeOf}
-use Rattle.machine.specs.Act.{Instr, ErrorExit, Pass, SetXA, SetVL, SetIOR, ClearIOR, ClearBDM, SetBDM, VMFromS, NormalExit, JumpB, Jump, ReturnJump, JumpAZ, JumpAN, JumpAP, JumpAM, JumpSZ, JumpSN, JumpSP, JumpSM, ConstantAh, ConstantA, ComplementA, ShortA, AFromS, AFromVL, AFromB, BFromA, AOnes, AParity, AZeros, SumA, DifferenceA, ProductA, ReadB, StoreB, ReadT, StoreT, ConstantS, ComplementS, OnesRightS, OnesLeftS, AndS, AndNotS, XorS, EqvS, MergeS, OrS, LeftS0, RightS0, LeftS, RightS, LeftPairS, RightPairS, SumS, DifferenceS, SFromA, SFromSignedA, SFromVM, Status, SFromT, TFromS, SFromV, VFromS, LoadA, StoreA, LoadS, StoreS, AndSV, AndVV, OrSV, OrVV, XorSV, XorVV, MergeSV, MergeVV, LeftV, RightV, LeftPairV, RightPairV, SumSV, SumVV, DifferenceSV, DifferenceVV, OnesV, ParityV, MarkZ, MarkN, MarkP, MarkM, LoadV, StoreV}
+use Rattle.machine.specs.Act.{Instr, ErrorExit, Pass, SetXA, SetVL, SetIOR, ClearIOR, ClearBDM, SetBDM, VMFromS, NormalExit, JumpB}
+use Rattle.machine.specs.Act.{Jump, ReturnJump, JumpAZ, JumpAN, JumpAP, JumpAM, JumpSZ, JumpSN, JumpSP, JumpSM, ConstantAh, ConstantA}
+use Rattle.machine.specs.Act.{ComplementA, ShortA, AFromS, AFromVL, AFromB, BFromA, AOnes, AParity, AZeros, SumA, DifferenceA, ProductA}
+use Rattle.machine.specs.Act.{ReadB, StoreB, ReadT, StoreT, ConstantS, ComplementS, OnesRightS, OnesLeftS, AndS, AndNotS, XorS}
+use Rattle.machine.specs.Act.{EqvS, MergeS, OrS, LeftS0, RightS0, LeftS, RightS, LeftPairS, RightPairS, SumS, DifferenceS, SFromA}
+use Rattle.machine.specs.Act.{SFromSignedA, SFromVM, Status, SFromT, TFromS, SFromV, VFromS, LoadA, StoreA, LoadS, StoreS, AndSV}
+use Rattle.machine.specs.Act.{AndVV, OrSV, OrVV, XorSV, XorVV, MergeSV, MergeVV, LeftV, RightV, LeftPairV, RightPairV, SumSV}
+use Rattle.machine.specs.Act.{SumVV, DifferenceSV, DifferenceVV, OnesV, ParityV, MarkZ, MarkN, MarkP, MarkM, LoadV, StoreV}
 use Rattle.spelling.specs.Words.{text, _⟨_⟩_, end, Ah, Ai, Aj, Ak, Si, Sj, Sk, Vi, Vj, Vk, Bjk, Tjk, h, j, jk, jkm, ijkm, 64-jk, jkm·Ah}
 
 -- what does nothing where it is held: 001000, 002700, and in user mode 0010jk to 0015jk, by their digits. No spelling: []

@@ -8,8 +8,10 @@ use Rattle.machine.specs.State.{State, addr}
 use Rattle.machine.specs.Run.{zeros}
 use Rattle.text.specs.Names.{nameSteps, nameChanged}
 use Rattle.text.specs.Digits.{isDecimal, isLetter, isHex, hexOf, allHex, hexFrom, glyphOf, digits, placesOf, widthOf, shown}
-use Rattle.text.specs.Sheet.{startsAt, endsAt, decimalFrom, numberAt, upTo, headAt, framed, wordLine, badLine, afterWords, afterSteps, checkOf, sheetFrom, sheetOf}
-use Rattle.text.specs.Report.{afterCommas, commas, decimalLine, stopLine, controlLines, fieldLines, programLines, registerLines, stateLines, change, changeText}
+use Rattle.text.specs.Sheet.{startsAt, endsAt, decimalFrom, numberAt, upTo, headAt, framed}
+use Rattle.text.specs.Sheet.{wordLine, badLine, afterWords, afterSteps, checkOf, sheetFrom, sheetOf}
+use Rattle.text.specs.Report.{afterCommas, commas, decimalLine, stopLine, controlLines, fieldLines}
+use Rattle.text.specs.Report.{programLines, registerLines, stateLines, change, changeText}
 use Rattle.text.specs.declared.Sheet.the-variants.{Good, Bad}
 
 -- the sheet; the third word's address ends in the digit d
@@ -32,11 +34,13 @@ sheet d =
     ∷ []
 
 says-4 : sheetOf (sheet 52) ≡ Good 4
-unfolding isDecimal isLetter isHex hexOf allHex hexFrom startsAt endsAt decimalFrom numberAt upTo headAt framed wordLine badLine afterWords afterSteps checkOf sheetFrom sheetOf
+unfolding isDecimal isLetter isHex hexOf allHex hexFrom startsAt endsAt decimalFrom numberAt upTo headAt framed wordLine badLine afterWords
+    afterSteps checkOf sheetFrom sheetOf
 says-4 = refl
 
 bad-line-5 : sheetOf (sheet 50) ≡ Bad 5
-unfolding isDecimal isLetter isHex hexOf allHex hexFrom startsAt endsAt decimalFrom numberAt upTo headAt framed wordLine badLine afterWords afterSteps checkOf sheetFrom sheetOf
+unfolding isDecimal isLetter isHex hexOf allHex hexFrom startsAt endsAt decimalFrom numberAt upTo headAt framed wordLine badLine afterWords
+    afterSteps checkOf sheetFrom sheetOf
 bad-line-5 = refl
 
 abbrev end : State
@@ -84,7 +88,8 @@ printed =
     -- cln=0
     ∷ 99 ∷ 108 ∷ 110 ∷ 61 ∷ 48 ∷ 10
     -- a=000000,000005,000007,00000C,000000,000000,000000,000000
-    ∷ 97 ∷ 61 ∷ 48 ∷ 48 ∷ 48 ∷ 48 ∷ 48 ∷ 48 ∷ 44 ∷ 48 ∷ 48 ∷ 48 ∷ 48 ∷ 48 ∷ 53 ∷ 44 ∷ 48 ∷ 48 ∷ 48 ∷ 48 ∷ 48 ∷ 55 ∷ 44 ∷ 48 ∷ 48 ∷ 48 ∷ 48 ∷ 48 ∷ 67 ∷ 44 ∷ 48 ∷ 48 ∷ 48 ∷ 48 ∷ 48 ∷ 48 ∷ 44 ∷ 48 ∷ 48 ∷ 48 ∷ 48 ∷ 48 ∷ 48 ∷ 44 ∷ 48 ∷ 48 ∷ 48 ∷ 48 ∷ 48 ∷ 48 ∷ 44 ∷ 48 ∷ 48 ∷ 48 ∷ 48 ∷ 48 ∷ 48 ∷ 10
+    ∷ 97 ∷ 61 ∷ 48 ∷ 48 ∷ 48 ∷ 48 ∷ 48 ∷ 48 ∷ 44 ∷ 48 ∷ 48 ∷ 48 ∷ 48 ∷ 48 ∷ 53 ∷ 44 ∷ 48 ∷ 48 ∷ 48 ∷ 48 ∷ 48 ∷ 55 ∷ 44 ∷ 48 ∷ 48 ∷ 48 ∷ 48
+    ∷ 48 ∷ 67 ∷ 44 ∷ 48 ∷ 48 ∷ 48 ∷ 48 ∷ 48 ∷ 48 ∷ 44 ∷ 48 ∷ 48 ∷ 48 ∷ 48 ∷ 48 ∷ 48 ∷ 44 ∷ 48 ∷ 48 ∷ 48 ∷ 48 ∷ 48 ∷ 48 ∷ 44 ∷ 48 ∷ 48 ∷ 48 ∷ 48 ∷ 48 ∷ 48 ∷ 10
     -- s=0,0,0,0,0,0,0,0
     ∷ 115 ∷ 61 ∷ 48 ∷ 44 ∷ 48 ∷ 44 ∷ 48 ∷ 44 ∷ 48 ∷ 44 ∷ 48 ∷ 44 ∷ 48 ∷ 44 ∷ 48 ∷ 44 ∷ 48 ∷ 10
     ∷ []

@@ -52,7 +52,8 @@ sets-snoc l i [] y = simp add-zero
 sets-snoc l i (x ∷ xs) y =
     let apart : i ≡ i + suc (length xs) → ⊥ = λ e. omega arith in
     let e : suc i + length xs ≡ i + suc (length xs) = omega arith in
-    sets-snoc (set l i x) (suc i) xs y ∙ ap (λ (k : ℕ). sets (set (set l i x) k y) (suc i) xs) e ∙ ap (λ (m : List ℕ). sets m (suc i) xs) (set-comm l i (i + suc (length xs)) x y apart)
+    sets-snoc (set l i x) (suc i) xs y ∙ ap (λ (k : ℕ). sets (set (set l i x) k y) (suc i) xs) e
+    ∙ ap (λ (m : List ℕ). sets m (suc i) xs) (set-comm l i (i + suc (length xs)) x y apart)
 
 pub digits-length : (b k n : ℕ) → length (digits b k n) ≡ k
 unfolding digits
@@ -64,7 +65,8 @@ pub wrote-digits : {d m : List ℕ} {at : ℕ} (b k n : ℕ) → m ≡ sets d at
 wrote-digits {d} {m} {at} b k n e = record { bytes = e; place = ap (λ (i : ℕ). at + i) (sym (digits-length b k n)) }
 
 -- digits stored from the right: one more, and none left
-pub digits-next : (l : List ℕ) (at b i rest : ℕ) → 0 < i → sets l at (digits b i rest) ≡ sets (set l (at + (i - 1)) (glyphOf (rest % b))) at (digits b (i - 1) (rest / b))
+pub digits-next : (l : List ℕ) (at b i rest : ℕ) → 0 < i
+    → sets l at (digits b i rest) ≡ sets (set l (at + (i - 1)) (glyphOf (rest % b))) at (digits b (i - 1) (rest / b))
 unfolding digits
 digits-next l at b zero rest h = absurd (omega arith)
 digits-next l at b (suc i) rest h =
@@ -120,7 +122,8 @@ unfolding commas
 commas-first [] least e = absurd (omega arith)
 commas-first (n ∷ ns) least e = refl
 
-pub commas-next : (ns : List ℕ) (least i : ℕ) → i < length ns → afterCommas least (drop i ns) ≡ (44 ∷ []) ++ shown 16 least (getD ns i 0) ++ afterCommas least (drop (i + 1) ns)
+pub commas-next : (ns : List ℕ) (least i : ℕ) → i < length ns
+    → afterCommas least (drop i ns) ≡ (44 ∷ []) ++ shown 16 least (getD ns i 0) ++ afterCommas least (drop (i + 1) ns)
 unfolding afterCommas
 commas-next ns least i h = simp (drop-cons ns i 0 h, add-one i)
 

@@ -9,7 +9,8 @@ use Rattle.machine.specs.declared.Ending.{Ending}
 use Rattle.machine.specs.declared.Ending.the-variants.{Budget, NotHeld, MonitorFetch, Refused}
 use Rattle.machine.specs.Word.{pick}
 use Rattle.machine.specs.State.{Registers, Frame, State}
-use Rattle.text.specs.Names.{nameSteps, nameP, nameXA, nameVL, nameModes, nameIBA, nameILA, nameDBA, nameDLA, namePS, nameCLN, nameA, nameS, nameChanged, stopBudget, stopNotHeld, stopMonitorFetch, nameRefused, nameLine, equals, comma, newline}
+use Rattle.text.specs.Names.{nameSteps, nameP, nameXA, nameVL, nameModes, nameIBA, nameILA, nameDBA, nameDLA, namePS, nameCLN}
+use Rattle.text.specs.Names.{nameA, nameS, nameChanged, stopBudget, stopNotHeld, stopMonitorFetch, nameRefused, nameLine, equals, comma, newline}
 use Rattle.text.specs.Digits.{shown}
 use Rattle.text.specs.Sheet.{sheetRefusal}
 

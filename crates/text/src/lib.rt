@@ -7,7 +7,9 @@ ghost use Rattle.machine.specs.Layout.{registersOf, frameOf, stateOf};
 ghost use Rattle.text.specs.Digits.{byteAt, isDecimal, isLetter, isHex, hexOf, hexFrom, glyphOf, digits, placesOf, shown};
 ghost use Rattle.text.specs.Sheet.{startsAt, endsAt, decimalFrom, numberAt, headAt, framed, badLine, stored, checkOf, sheetOf, sheetNumbers, memoryOf};
 ghost use Rattle.text.specs.Bounds.{HeadFits, CheckedFits, SheetFits};
-ghost use Rattle.text.specs.Report.{lineOf, commas, stopLine, modesOf, controlLines, fieldLines, programLines, registerLines, stateLines, smaller, comparedOf, change, changes, changeText, changedWords, changedLines, reportOf, refusedOf, Wrote};
+ghost use Rattle.text.specs.Report.{lineOf, commas, stopLine, modesOf, controlLines, fieldLines, programLines, registerLines};
+ghost use Rattle.text.specs.Report.{stateLines, smaller, comparedOf, change, changes, changeText, changedWords, changedLines};
+ghost use Rattle.text.specs.Report.{reportOf, refusedOf, Wrote};
 use machine::Ending;
 
 // What a line of a name and a number says: the number, and where the next line starts; or the line is bad.
@@ -492,7 +494,8 @@ fn smaller_of(x: usize, y: usize) -> usize
 
 // How many words are compared.
 fn compared(before: &[u64], after: &[u64]) -> usize
-    ensures { λ r. ⌜ (r ≡ comparedOf (now (before .entry)) (now (after .entry))) × (r ≤ length (now (before .entry))) × (r ≤ length (now (after .entry))) × (r ≤ 4194304) ⌝ }
+    ensures { λ r. ⌜ (r ≡ comparedOf (now (before .entry)) (now (after .entry))) × (r ≤ length (now (before .entry))) ×
+        (r ≤ length (now (after .entry))) × (r ≤ 4194304) ⌝ }
 {
     smaller_of(smaller_of(before.len(), after.len()), 4194304)
 }
@@ -566,7 +569,8 @@ pub fn report(
     after: &[u64],
     out: &mut [u8],
 ) -> usize
-    ensures { λ n. ⌜ Wrote (now (out .entry)) 0 (reportOf ending steps (stateOf (now (r .entry))) (now (before .entry)) (now (after .entry))) (now (out .exit)) n ⌝ }
+    ensures { λ n. ⌜ Wrote (now (out .entry)) 0
+        (reportOf ending steps (stateOf (now (r .entry))) (now (before .entry)) (now (after .entry))) (now (out .exit)) n ⌝ }
     ensures { λ n. ⌜ (length (now (before .entry)) ≤ 65536 → n ≤ 8192 + 22 * length (now (before .entry))) ⌝ }
 {
     let second = put_stop(out, ending);

@@ -38,7 +38,8 @@ Fine len st sh =
       long : length (sh .mem) ≡ len;
     }
 
-module _ (len : ℕ) (st : State) (r : Registers) (sh : Shared) (f : FrameOk (st .frame)) (k : ControlOk r) (n : st .frame .processor < 2) (l : length (sh .mem) ≡ len) where
+module _ (len : ℕ) (st : State) (r : Registers) (sh : Shared) (f : FrameOk (st .frame)) (k : ControlOk r) (n : st .frame .processor < 2)
+    (l : length (sh .mem) ≡ len) where
   exchange-fine : (p flags : ℕ) → Fine len (exchange (st .frame) r p flags sh .state) (exchange (st .frame) r p flags sh .shared)
   unfolding exchange save loaded
   exchange-fine p flags =
@@ -66,13 +67,22 @@ step-fine len st sh h =
 
 -- so does a turn
 pub turn-fitting : (r r′ mem mem′ : List ℕ) (budget : ℕ) (l : Last) (n : ℕ) → Fitting r (length mem) → getD r 0 0 < 2 ^ 24 → length r′ ≡ 672
-    → turned l n (stateOf r′) (sharing mem′) ≡ turnOf budget Nothing 0 (stateOf r) (sharing mem) → Fitting r′ (length mem′) × (getD r′ 0 0 < 2 ^ 24) × (length mem′ ≡ length mem)
+    → turned l n (stateOf r′) (sharing mem′) ≡ turnOf budget Nothing 0 (stateOf r) (sharing mem) → Fitting r′ (length mem′)
+    × (getD r′ 0 0 < 2 ^ 24) × (length mem′ ≡ length mem)
 turn-fitting r r′ mem mem′ budget l n f p long e =
     let start : Fine (length mem) (stateOf r) (sharing mem)
     = record { frame = f .frame; control = f .control; processor = f .processor; p = p; long = refl } in
     let end : Fine (length mem) (stateOf r′) (sharing mem′)
     = rw (← e) at (turn-keeps (Fine (length mem)) (step-fine (length mem)) budget Nothing 0 (stateOf r) (sharing mem) start) in (
-      record { long = long; frame = end .frame; control = end .control; processor = end .processor; least = omega (arith, end .long, f .least); most = omega (arith, end .long, f .most) },
+      record {
+        long = long;
+        frame = end .frame;
+        control = end .control;
+        processor = end .processor;
+        least = omega
+            (arith, end .long, f .least);
+        most = omega (arith, end .long, f .most);
+      },
       end .p,
       end .long,
     )
@@ -159,7 +169,8 @@ module _ (r r′ mem mem′ : List ℕ) (budget left steps n : ℕ) (l : Last) (
   pub runs-on : Running (runOf left steps (stateOf r) (sharing mem)) (length mem) r′ mem′ budget (steps + n) l × (isExchange l ≡ true → 1 ≤ n)
   runs-on =
       let k = turn-fitting r r′ mem mem′ left l n f p long t in
-      let u : Resumes left steps 0 (turned l n (stateOf r′) (sharing mem′)) (runOf left steps (stateOf r) (sharing mem)) = rw t (resumes left 0 0 steps (stateOf r) (sharing mem)) in
+      let u : Resumes left steps 0 (turned l n (stateOf r′) (sharing mem′)) (runOf left steps (stateOf r) (sharing mem)) = rw t
+      (resumes left 0 0 steps (stateOf r) (sharing mem)) in
       let c : n ≡ u .k = u .count ∙ omega arith in
       let a : left - u .k ≡ budget - (steps + n) = omega (arith, c, e) in
       let b : steps + u .k ≡ steps + n = omega (arith, c) in (
@@ -188,7 +199,8 @@ module _ (r r′ mem mem′ : List ℕ) (budget left steps n : ℕ) (l : Last) (
       less false z = omega (arith, runs-on .0 .within)
 
 -- the loop is left: the budget is spent, or the last answer is no exchange
-pub over : (budget steps : ℕ) (l : Last) (r mem : List ℕ) → (isExchange l ≡ true → budget - steps ≡ 0) → later budget steps l r mem ≡ ended (lastEnding l) steps (stateOf r) (sharing mem)
+pub over : (budget steps : ℕ) (l : Last) (r mem : List ℕ) → (isExchange l ≡ true → budget - steps ≡ 0)
+    → later budget steps l r mem ≡ ended (lastEnding l) steps (stateOf r) (sharing mem)
 unfolding runOf
 over budget steps Nothing r mem h = refl
 over budget steps (Was Stepped) r mem h = refl

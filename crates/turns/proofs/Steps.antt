@@ -141,7 +141,8 @@ pub record Going (r₀ mem₀ r mem : List ℕ) (f : Reach) (from p : ParcelAddr
   pub long : length mem ≡ length mem₀
   pub rest : turnOf left (lastAfter (budget - left)) (budget - left) (stateAt p r) (sharing mem) ≡ turnOf budget Nothing 0 (stateAt from r₀) (sharing mem₀)
 
-pub begins : (r mem : List ℕ) (f : Reach) (from : ParcelAddr) (budget : ℕ) → Ready r f (length mem) → from .0 < 2 ^ 24 → Going r mem r mem f from from budget budget
+pub begins : (r mem : List ℕ) (f : Reach) (from : ParcelAddr) (budget : ℕ) → Ready r f (length mem) → from .0 < 2 ^ 24
+    → Going r mem r mem f from from budget budget
 begins r mem f from budget h l =
     let e : budget - budget ≡ 0 = omega arith in
     record { within = omega arith; narrow = l; ready = h; long = refl; rest = rw e }
@@ -162,7 +163,8 @@ module _ (r₀ mem₀ r mem r′ mem′ : List ℕ) (f : Reach) (from p : Parcel
         rest =
             ap (λ (l : Last). turnOf (left - 1) l (budget - (left - 1)) (stateAt q r′) (sharing mem′)) (ap lastAfter s)
             ∙ ap (λ (m : ℕ). turnOf (left - 1) (Was Stepped) m (stateAt q r′) (sharing mem′)) (sym n)
-            ∙ sym (turn-on left (lastAfter (budget - left)) (budget - left) (stateAt p r) (sharing mem) some (stateAt q r′) (sharing mem′) (steps-on w r r′ mem mem′ p did q e))
+            ∙ sym (turn-on left (lastAfter (budget - left)) (budget - left) (stateAt p r) (sharing mem) some (stateAt q r′) (sharing mem′)
+            (steps-on w r r′ mem mem′ p did q e))
             ∙ g .rest;
       }
 
@@ -210,11 +212,13 @@ flag-small fr flag l = go (user fr)
     go false = omega arith
 
 -- how a turn ends, by its burst
-module _ (p : ParcelAddr) (n : ℕ) (w : Work) (r r′ mem mem′ : List ℕ) (f : Reach) (from : ParcelAddr) (budget : ℕ) (b : Bursts p n w r r′ mem mem′ f from budget) where
+module _ (p : ParcelAddr) (n : ℕ) (w : Work) (r r′ mem mem′ : List ℕ) (f : Reach) (from : ParcelAddr) (budget : ℕ)
+    (b : Bursts p n w r r′ mem mem′ f from budget) where
   pub turn-spent : n ≡ budget → turned (lastAfter n) n (stateAt p r′) (sharing mem′) ≡ turnOf budget Nothing 0 (stateAt from r) (sharing mem)
   turn-spent e = rw (eq-eqb n budget e) at (b .turn)
 
-  pub turn-finished : (n ≡ budget → ⊥) → (o : Out) → o ≡ finish (stateAt p r′) w (registersOf r′) (sharing mem′) → turnedBy n o ≡ turnOf budget Nothing 0 (stateAt from r) (sharing mem)
+  pub turn-finished : (n ≡ budget → ⊥) → (o : Out) → o ≡ finish (stateAt p r′) w (registersOf r′) (sharing mem′)
+      → turnedBy n o ≡ turnOf budget Nothing 0 (stateAt from r) (sharing mem)
   turn-finished ne o e = ap (turnedBy n) e ∙ (rw (ne-eqb n budget ne) at (b .turn))
 
   pub still-fitting : length mem′ ≡ length mem → 4096 ≤ length mem → Fitting r′ (length mem′)

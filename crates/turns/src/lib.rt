@@ -98,7 +98,8 @@ fn in_user_mode(r: &[u64], flag: u64) -> u64
 fn leave(r: &mut [u64], mem: &mut [u64], p: ParcelAddr, flags: u64) -> Answer
     requires { ⌜ Fitting (now r) (length (now mem)) ⌝ }
     requires { ⌜ (p .0 < 2 ^ 24) × (flags < 512) ⌝ }
-    ensures { λ o. ⌜ out o (stateOf (now (r .exit))) (sharing (now (mem .exit))) ≡ exchange (frameOf (now (r .entry))) (registersOf (now (r .entry))) (p .0) flags (sharing (now (mem .entry))) ⌝ }
+    ensures { λ o. ⌜ out o (stateOf (now (r .exit))) (sharing (now (mem .exit)))
+        ≡ exchange (frameOf (now (r .entry))) (registersOf (now (r .entry))) (p .0) flags (sharing (now (mem .entry))) ⌝ }
 {
     exchange::swap(r, mem, p, flags);
     Answer::Exchanged(flags)
@@ -116,7 +117,8 @@ fn set_p(r: &mut [u64], p: ParcelAddr)
 fn finish(r: &mut [u64], mem: &mut [u64], p: ParcelAddr, w: Work) -> Answer
     requires { ⌜ Fitting (now r) (length (now mem)) ⌝ }
     requires { ⌜ (p .0 < 2 ^ 24) × Narrow w ⌝ }
-    ensures { λ o. ⌜ out o (stateOf (now (r .exit))) (sharing (now (mem .exit))) ≡ finish (stateAt p (now (r .entry))) w (registersOf (now (r .entry))) (sharing (now (mem .entry))) ⌝ }
+    ensures { λ o. ⌜ out o (stateOf (now (r .exit))) (sharing (now (mem .exit)))
+        ≡ finish (stateAt p (now (r .entry))) w (registersOf (now (r .entry))) (sharing (now (mem .entry))) ⌝ }
 {
     match w {
         Work::PastOne => {
@@ -179,7 +181,8 @@ pub struct Turned {
 pub fn turn(r: &mut [u64], mem: &mut [u64], budget: u64) -> Turned
     requires { ⌜ Fitting (now r) (length (now mem)) ⌝ }
     requires { ⌜ (getD (now r) 0 0 < 2 ^ 24) × (budget ≤ 1000000) ⌝ }
-    ensures { λ t. ⌜ turned (t .last) (t .steps) (stateOf (now (r .exit))) (sharing (now (mem .exit))) ≡ turnOf budget Nothing 0 (stateOf (now (r .entry))) (sharing (now (mem .entry))) ⌝ }
+    ensures { λ t. ⌜ turned (t .last) (t .steps) (stateOf (now (r .exit))) (sharing (now (mem .exit)))
+        ≡ turnOf budget Nothing 0 (stateOf (now (r .entry))) (sharing (now (mem .entry))) ⌝ }
 {
     let f = access::reach(r, mem);
     let from = ParcelAddr(r[access::P]);

@@ -57,7 +57,8 @@ fn finish_at(pair: &mut [u64], mem: &mut [u64], at: usize, p: ParcelAddr, w: Wor
     requires { ⌜ (length (now pair) ≡ 1344) × Side at ⌝ }
     requires { ⌜ Fitting (part at 672 (now pair)) (length (now mem)) ⌝ }
     requires { ⌜ (p .0 < 2 ^ 24) × Narrow w ⌝ }
-    ensures { λ o. ⌜ out o (stateOf (part at 672 (now (pair .exit)))) (sharing (now (mem .exit))) ≡ finish (stateAt p (part at 672 (now (pair .entry)))) w (registersOf (part at 672 (now (pair .entry)))) (sharing (now (mem .entry))) ⌝ }
+    ensures { λ o. ⌜ out o (stateOf (part at 672 (now (pair .exit)))) (sharing (now (mem .exit)))
+        ≡ finish (stateAt p (part at 672 (now (pair .entry)))) w (registersOf (part at 672 (now (pair .entry)))) (sharing (now (mem .entry))) ⌝ }
     ensures { λ o. ⌜ part (672 - at) 672 (now (pair .exit)) ≡ part (672 - at) 672 (now (pair .entry)) ⌝ }
 {
     let end = at + access::WORDS;
@@ -109,7 +110,8 @@ fn take(pair: &mut [u64], mem: &mut [u64], schedule: &[u8]) -> PairBurst
     requires { ⌜ (length (now pair) ≡ 1344) × (length (now schedule) ≤ 65536) ⌝ }
     requires { ⌜ Fitting (part 0 672 (now pair)) (length (now mem)) × Fitting (part 672 672 (now pair)) (length (now mem)) ⌝ }
     requires { ⌜ (getD (now pair) 0 0 < 2 ^ 24) × (getD (now pair) 672 0 < 2 ^ 24) ⌝ }
-    ensures { λ o. ⌜ PairBursts (o .at) (o .p) (o .steps) (o .work) (now (schedule .entry)) (now (pair .entry)) (now (pair .exit)) (now (mem .entry)) (now (mem .exit)) ⌝ }
+    ensures { λ o. ⌜ PairBursts (o .at) (o .p) (o .steps) (o .work) (now (schedule .entry)) (now (pair .entry)) (now (pair .exit))
+        (now (mem .entry)) (now (mem .exit)) ⌝ }
 {
     let first = reach_at(pair, mem, 0);
     let second = reach_at(pair, mem, access::WORDS);
@@ -160,7 +162,8 @@ pub fn take_schedule(pair: &mut [u64], mem: &mut [u64], schedule: &[u8]) -> Pair
     requires { ⌜ (length (now pair) ≡ 1344) × (length (now schedule) ≤ 65536) ⌝ }
     requires { ⌜ Fitting (part 0 672 (now pair)) (length (now mem)) × Fitting (part 672 672 (now pair)) (length (now mem)) ⌝ }
     requires { ⌜ (getD (now pair) 0 0 < 2 ^ 24) × (getD (now pair) 672 0 < 2 ^ 24) ⌝ }
-    ensures { λ o. ⌜ pairEnded (o .last) (o .steps) (firstOf (now (pair .exit))) (secondOf (now (pair .exit))) (sharing (now (mem .exit))) ≡ pairOf (now (schedule .entry)) Nothing 0 (firstOf (now (pair .entry))) (secondOf (now (pair .entry))) (sharing (now (mem .entry))) ⌝ }
+    ensures { λ o. ⌜ pairEnded (o .last) (o .steps) (firstOf (now (pair .exit))) (secondOf (now (pair .exit))) (sharing (now (mem .exit)))
+        ≡ pairOf (now (schedule .entry)) Nothing 0 (firstOf (now (pair .entry))) (secondOf (now (pair .entry))) (sharing (now (mem .entry))) ⌝ }
 {
     let burst = take(pair, mem, schedule);
     let at = burst.at;

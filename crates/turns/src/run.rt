@@ -68,7 +68,8 @@ fn ending_of(last: Last) -> Ending
 pub fn take_turns(r: &mut [u64], mem: &mut [u64], budget: u64) -> Ran
     requires { ⌜ Fitting (now r) (length (now mem)) ⌝ }
     requires { ⌜ (getD (now r) 0 0 < 2 ^ 24) × (budget ≤ 1000000) ⌝ }
-    ensures { λ o. ⌜ ended (o .ending) (o .steps) (stateOf (now (r .exit))) (sharing (now (mem .exit))) ≡ runOf budget 0 (stateOf (now (r .entry))) (sharing (now (mem .entry))) ⌝ }
+    ensures { λ o. ⌜ ended (o .ending) (o .steps) (stateOf (now (r .exit))) (sharing (now (mem .exit)))
+        ≡ runOf budget 0 (stateOf (now (r .entry))) (sharing (now (mem .entry))) ⌝ }
 {
     let first = crate::turn(r, mem, budget);
     let mut last = first.last;

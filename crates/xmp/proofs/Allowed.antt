@@ -111,11 +111,14 @@ pair-allowed pair len schedule long e =
     )
 
 -- a turn of one step is the step
-turn-one : (st : State) (sh : Shared) → turnOf 1 last.Nothing 0 st sh ≡ turned (last.Was (stepOf st sh .answer)) (counted (stepOf st sh .answer)) (stepOf st sh .state) (stepOf st sh .shared)
+turn-one : (st : State) (sh : Shared)
+    → turnOf 1 last.Nothing 0 st sh ≡ turned (last.Was (stepOf st sh .answer)) (counted (stepOf st sh .answer)) (stepOf st sh .state) (stepOf st sh .shared)
 unfolding turnOf
 turn-one st sh = go (stepOf st sh .answer)
   where
-    go : (o : Answer) → pick (goesOn o) (turned (last.Was o) (0 + counted o) (stepOf st sh .state) (stepOf st sh .shared)) (turned (last.Was o) (0 + counted o) (stepOf st sh .state) (stepOf st sh .shared))
+    go : (o : Answer)
+        → pick (goesOn o) (turned (last.Was o) (0 + counted o) (stepOf st sh .state) (stepOf st sh .shared))
+        (turned (last.Was o) (0 + counted o) (stepOf st sh .state) (stepOf st sh .shared))
         ≡ turned (last.Was o) (counted o) (stepOf st sh .state) (stepOf st sh .shared)
     go Stepped = refl
     go (Exchanged flags) = refl

@@ -55,7 +55,8 @@ pub fn step(r: &mut [u64; 672], mem: &mut [u64]) -> Reply
 
 // Steps up to and including the first that exchanges or stops, at most `budget`.
 pub fn turn(r: &mut [u64; 672], mem: &mut [u64], budget: u64) -> Turned
-    ensures { λ o. ⌜ turned (o .last) (o .steps) (stateOf (now (r .exit))) (sharing (now (mem .exit))) ≡ turnCall (stateOf (now (r .entry))) (sharing (now (mem .entry))) budget ⌝ }
+    ensures { λ o. ⌜ turned (o .last) (o .steps) (stateOf (now (r .exit))) (sharing (now (mem .exit)))
+        ≡ turnCall (stateOf (now (r .entry))) (sharing (now (mem .entry))) budget ⌝ }
     ensures { λ o. ⌜ lastNumbers (o .last) ≡ lastNumbers (turnCall (stateOf (now (r .entry))) (sharing (now (mem .entry))) budget .last) ⌝ }
 {
     let no = refusal::of_run(r, mem.len(), budget);
@@ -70,7 +71,8 @@ pub fn turn(r: &mut [u64; 672], mem: &mut [u64], budget: u64) -> Turned
 
 // At most `budget` steps, sooner where one stops.
 pub fn run(r: &mut [u64; 672], mem: &mut [u64], budget: u64) -> Ran
-    ensures { λ o. ⌜ ended (o .ending) (o .steps) (stateOf (now (r .exit))) (sharing (now (mem .exit))) ≡ runCall (stateOf (now (r .entry))) (sharing (now (mem .entry))) budget ⌝ }
+    ensures { λ o. ⌜ ended (o .ending) (o .steps) (stateOf (now (r .exit))) (sharing (now (mem .exit)))
+        ≡ runCall (stateOf (now (r .entry))) (sharing (now (mem .entry))) budget ⌝ }
     ensures { λ o. ⌜ endingNumbers (o .ending) ≡ endingNumbers (runCall (stateOf (now (r .entry))) (sharing (now (mem .entry))) budget .ending) ⌝ }
 {
     let no = refusal::of_run(r, mem.len(), budget);
@@ -86,8 +88,10 @@ pub fn run(r: &mut [u64; 672], mem: &mut [u64], budget: u64) -> Ran
 // Two processors, one after the other in 1,344 words, over one memory: a step for each byte of a schedule of 0s and 1s, up to and
 // including the first that exchanges or stops.
 pub fn pair_run(pair: &mut [u64; 1344], mem: &mut [u64], schedule: &[u8]) -> Paired
-    ensures { λ o. ⌜ pairEnded (o .last) (o .steps) (firstOf (now (pair .exit))) (secondOf (now (pair .exit))) (sharing (now (mem .exit))) ≡ pairCall (firstOf (now (pair .entry))) (secondOf (now (pair .entry))) (sharing (now (mem .entry))) (now (schedule .entry)) ⌝ }
-    ensures { λ o. ⌜ lastNumbers (o .last) ≡ lastNumbers (pairCall (firstOf (now (pair .entry))) (secondOf (now (pair .entry))) (sharing (now (mem .entry))) (now (schedule .entry)) .last) ⌝ }
+    ensures { λ o. ⌜ pairEnded (o .last) (o .steps) (firstOf (now (pair .exit))) (secondOf (now (pair .exit))) (sharing (now (mem .exit)))
+        ≡ pairCall (firstOf (now (pair .entry))) (secondOf (now (pair .entry))) (sharing (now (mem .entry))) (now (schedule .entry)) ⌝ }
+    ensures { λ o. ⌜ lastNumbers (o .last)
+        ≡ lastNumbers (pairCall (firstOf (now (pair .entry))) (secondOf (now (pair .entry))) (sharing (now (mem .entry))) (now (schedule .entry)) .last) ⌝ }
 {
     let no = refusal::of_pair(pair, mem.len(), schedule);
     if no != 0 {

@@ -6,7 +6,8 @@ use Rattle.access.proofs.a_k.Statement.{statement}
 use Rattle.access.proofs.a_k.Tie as tie
 
 returns : tie.Need-returns
-returns c = rw (c .operand .ensures, c .before .k .ensures, a-at (c .before .before .before .args .r .now) (kOf (c .before .before .before .args .x)) (omega arith))
+returns c =
+    rw (c .operand .ensures, c .before .k .ensures, a-at (c .before .before .before .args .r .now) (kOf (c .before .before .before .args .x)) (omega arith))
 
 pub a-k-spec : {M : Type 1} → statement M
 a-k-spec = tie.close (tie.spec (λ c κs. search needs) (λ c κs. search needs) returns)

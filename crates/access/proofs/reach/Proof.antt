@@ -23,7 +23,16 @@ words-in-requires-2 c κs = search needs
 
 returns : tie.Need-returns
 unfolding frameOf
-returns c = record { iba = omega arith; dba = omega arith; size = omega arith; code = refl; span = c .before .before .before .before .words-in .ensures; operands = refl; words = c .words-in2 .ensures }
+returns c =
+    record {
+      iba = omega arith;
+      dba = omega arith;
+      size = omega arith;
+      code = refl;
+      span = c .before .before .before .before .words-in .ensures;
+      operands = refl;
+      words = c .words-in2 .ensures;
+    }
 
 pub reach-spec : {M : Type 1} → statement M
 reach-spec =

@@ -10,11 +10,29 @@ use Rattle.address.proofs.ones.Tie as tie
 
 returns : tie.Need-returns
 unfolding codeOf act
-returns c = λ p mem. puts AOnes _ _ _ _ mem p _ (c .before .before .put-a .ensures) (rw (c .before .before .before .before .before .before .before .before .before .before .pre .1, ← c .before .before .before .before .before .before .before .before .k .ensures, c .before .before .before .before .before .before .before .match .keys1)) (rw (c .before .before .before .count-ones .ensures, c .before .before .before .before .s-j .ensures))
+returns c =
+    λ p mem. puts AOnes _ _ _ _ mem p _ (c .before .before .put-a .ensures)
+    (rw (
+      c .before .before .before .before .before .before .before .before .before .before .pre .1,
+      ← c .before .before .before .before .before .before .before .before .k .ensures,
+      c .before .before .before .before .before .before .before .match .keys1,
+    )) (rw (
+      c .before .before .before .count-ones .ensures,
+      c .before .before .before .before .s-j .ensures,
+    ))
 
 returns-2 : tie.Need-returns-2
 unfolding codeOf act
-returns-2 c = λ p mem. puts AParity _ _ _ _ mem p _ (c .before .before .put-a2 .ensures) (rw (c .before .before .before .before .before .before .before .before .before .before .pre .1, ← c .before .before .before .before .before .before .before .before .k .ensures, c .before .before .before .before .before .before .before .match .keys2)) (rw (c .before .before .before .odd-ones .ensures, c .before .before .before .before .s-j2 .ensures))
+returns-2 c =
+    λ p mem. puts AParity _ _ _ _ mem p _ (c .before .before .put-a2 .ensures)
+    (rw (
+      c .before .before .before .before .before .before .before .before .before .before .pre .1,
+      ← c .before .before .before .before .before .before .before .before .k .ensures,
+      c .before .before .before .before .before .before .before .match .keys2,
+    )) (rw (
+      c .before .before .before .odd-ones .ensures,
+      c .before .before .before .before .s-j2 .ensures,
+    ))
 
 returns-3 : tie.Need-returns-3
 unfolding codeOf

@@ -7,7 +7,14 @@ use Rattle.address.proofs.product.Tie as tie
 
 returns : tie.Need-returns
 unfolding codeOf act
-returns c = λ p mem. puts ProductA _ _ _ _ mem p _ (c .before .before .put-a .ensures) (rw (c .before .before .before .before .before .before .before .before .before .before .pre .1)) (rw (c .before .before .before .product-24 .ensures, c .before .before .before .before .before .before .a-j .ensures, c .before .before .before .before .a-k .ensures))
+returns c =
+    λ p mem. puts ProductA _ _ _ _ mem p _ (c .before .before .put-a .ensures)
+    (rw (c .before .before .before .before .before .before .before .before .before .before .pre .1))
+    (rw (
+      c .before .before .before .product-24 .ensures,
+      c .before .before .before .before .before .before .a-j .ensures,
+      c .before .before .before .before .a-k .ensures,
+    ))
 
 pub product-spec : {M : Type 1} → statement M
 product-spec =

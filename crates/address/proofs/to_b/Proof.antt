@@ -8,7 +8,10 @@ use Rattle.address.proofs.to_b.Tie as tie
 
 returns : tie.Need-returns
 unfolding codeOf act
-returns c = λ p mem. puts BFromA _ _ _ _ mem p _ (refl, c .before .before .set-b .ensures) (rw (c .before .before .before .before .before .before .before .before .pre .1)) (rw (c .before .before .before .before .before .jk .ensures, c .before .before .before .a-i .ensures))
+returns c =
+    λ p mem. puts BFromA _ _ _ _ mem p _ (refl, c .before .before .set-b .ensures)
+    (rw (c .before .before .before .before .before .before .before .before .pre .1))
+    (rw (c .before .before .before .before .before .jk .ensures, c .before .before .before .a-i .ensures))
 
 pub to-b-spec : {M : Type 1} → statement M
 to-b-spec =

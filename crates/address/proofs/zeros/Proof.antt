@@ -8,7 +8,16 @@ use Rattle.address.proofs.zeros.Tie as tie
 
 returns : tie.Need-returns
 unfolding codeOf act
-returns c = λ p mem. puts AZeros _ _ _ _ mem p _ (c .before .before .put-a .ensures) (rw (c .before .before .before .before .before .before .before .before .before .before .pre .1, ← c .before .before .before .before .before .before .before .before .k .ensures, c .before .before .before .before .before .before .before .if1 .taken)) (rw (c .before .before .before .count-zeros .ensures, c .before .before .before .before .s-j .ensures))
+returns c =
+    λ p mem. puts AZeros _ _ _ _ mem p _ (c .before .before .put-a .ensures)
+    (rw (
+      c .before .before .before .before .before .before .before .before .before .before .pre .1,
+      ← c .before .before .before .before .before .before .before .before .k .ensures,
+      c .before .before .before .before .before .before .before .if1 .taken,
+    )) (rw (
+      c .before .before .before .count-zeros .ensures,
+      c .before .before .before .before .s-j .ensures,
+    ))
 
 returns-2 : tie.Need-returns-2
 unfolding codeOf

@@ -24,7 +24,8 @@ returns c =
 store-requires : tie.Need-store-requires
 store-requires c κs =
     let a = c .before .before .before .before .before .before .before .before .before .before .before .args in
-    let k = subst (Checks (a .text .now)) (c .before .before .before .before .n .given .1) (c .before .before .before .before .before .before .look-through .ensures) in (
+    let k = subst (Checks (a .text .now)) (c .before .before .before .before .n .given .1)
+    (c .before .before .before .before .before .before .look-through .ensures) in (
       assembled-fits (a .text .now) (a .room .now) (k .0) _ (k .1) (k .2) (c .before .before .if1 .left),
       c .before .before .before .before .before .before .before .before .plan-table .ensures,
     )

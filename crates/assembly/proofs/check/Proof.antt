@@ -27,7 +27,8 @@ returns : tie.Need-returns Inv-loop μ-loop
 returns c =
     let a = c .before .before .before .before .before .before .args in
     let L = c .before .before .before .before .loop in
-    let bad = subst (λ (r : Read). ReadsAs (a .text .now) (L .at) (readLine (drop (L .at) (a .text .now))) r) (c .enum-told .given .1) (c .before .before .read-line .ensures) in
+    let bad = subst (λ (r : Read). ReadsAs (a .text .now) (L .at) (readLine (drop (L .at) (a .text .now))) r) (c .enum-told .given .1)
+    (c .before .before .read-line .ensures) in
     let p = L .inv .1 in (
       passed-bad (a .text .now) (L .at) (L .lines) (L .inv .0) p (c .before .before .before .loop-test .taken) bad,
       (let k = p .lines in omega (arith, k)),
@@ -37,7 +38,8 @@ add-parcels : tie.Need-add-parcels Inv-loop μ-loop
 add-parcels c =
     let a = c .before .before .before .before .before .before .before .args in
     let L = c .before .before .before .before .before .loop in
-    let good = subst (λ (r : Read). ReadsAs (a .text .now) (L .at) (readLine (drop (L .at) (a .text .now))) r) (c .before .n .given .1) (c .before .before .before .read-line .ensures) in
+    let good = subst (λ (r : Read). ReadsAs (a .text .now) (L .at) (readLine (drop (L .at) (a .text .now))) r) (c .before .n .given .1)
+    (c .before .before .before .read-line .ensures) in
     let few = L .inv .3 in
     let most = good .1 in
     let fits = good .3 in
@@ -50,7 +52,8 @@ loop-less : tie.Need-loop-less Inv-loop μ-loop
 loop-less c =
     let a = c .before .before .before .before .before .before .before .args in
     let L = c .before .before .before .before .before .loop in
-    let good = subst (λ (r : Read). ReadsAs (a .text .now) (L .at) (readLine (drop (L .at) (a .text .now))) r) (c .before .n .given .1) (c .before .before .before .read-line .ensures) in
+    let good = subst (λ (r : Read). ReadsAs (a .text .now) (L .at) (readLine (drop (L .at) (a .text .now))) r) (c .before .n .given .1)
+    (c .before .before .before .read-line .ensures) in
     let on = good .2 in
     let fits = good .3 in
     omega (arith, on, fits)
@@ -59,13 +62,15 @@ loop-again : tie.Need-loop-again Inv-loop μ-loop
 loop-again c =
     let a = c .before .before .before .before .before .before .before .args in
     let L = c .before .before .before .before .before .loop in
-    let good = subst (λ (r : Read). ReadsAs (a .text .now) (L .at) (readLine (drop (L .at) (a .text .now))) r) (c .before .n .given .1) (c .before .before .before .read-line .ensures) in
+    let good = subst (λ (r : Read). ReadsAs (a .text .now) (L .at) (readLine (drop (L .at) (a .text .now))) r) (c .before .n .given .1)
+    (c .before .before .before .read-line .ensures) in
     let ps = good .0 .0 in
     let few = L .inv .3 in
     let most = good .1 in
     let n = length-append (L .inv .0) ps ∙ ap (λ (k : ℕ). k + length ps) (L .inv .2) ∙ ap (λ (k : ℕ). L .parcels + k) (good .0 .2) in (
       L .inv .0 ++ ps,
-      passed-good (a .text .now) (L .at) (L .lines) (L .inv .0) (L .inv .1) (c .before .before .before .before .loop-test .taken) ps _ (good .2) (good .3) (good .0 .1),
+      passed-good (a .text .now) (L .at) (L .lines) (L .inv .0) (L .inv .1) (c .before .before .before .before .loop-test .taken) ps _
+          (good .2) (good .3) (good .0 .1),
       n,
       omega (arith, few, most),
     )

@@ -9,7 +9,8 @@ use Rattle.assembly.proofs.copied.Statement.{statement}
 use Rattle.assembly.proofs.copied.Tie as tie
 
 abbrev Inv-loop : tie.InvT-loop
-Inv-loop text at line₀ i₀ line i = (length line ≡ 16) × (i ≤ 16) × (sets (replicate 16 0) 0 (take 16 (drop at text)) ≡ sets line i (drop i (take 16 (drop at text))))
+Inv-loop text at line₀ i₀ line i =
+    (length line ≡ 16) × (i ≤ 16) × (sets (replicate 16 0) 0 (take 16 (drop at text)) ≡ sets line i (drop i (take 16 (drop at text))))
 
 abbrev μ-loop : tie.MeasureT-loop
 μ-loop text at line₀ i₀ line i = 16 - i
@@ -33,7 +34,8 @@ loop-again c =
       c .before .before .loop .inv .2
           ∙ copy-next (take 16 s) (c .before .before .loop .line) (c .before .before .loop .i) (omega (arith, all))
           ∙ ap
-          (λ (b : ℕ). sets (set (c .before .before .loop .line) (c .before .before .loop .i) b) (c .before .before .loop .i + 1) (drop (c .before .before .loop .i + 1) (take 16 s)))
+          (λ (b : ℕ). sets (set (c .before .before .loop .line) (c .before .before .loop .i) b) (c .before .before .loop .i + 1)
+          (drop (c .before .before .loop .i + 1) (take 16 s)))
           byte,
     )
 

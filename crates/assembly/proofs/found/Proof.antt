@@ -12,8 +12,12 @@ returns-2 c = rw (ne-eqb _ _ (c .before .before .if1 .left), lt-ltb _ _ (c .if2 
 
 returns-3 : tie.Need-returns-3
 returns-3 c =
-    rw
-    (ne-eqb _ _ (c .before .before .before .before .before .if1 .left), le-ltb _ _ (c .before .before .before .if2 .left), c .before .before .if3 .taken, c .if4 .taken)
+    rw (
+      ne-eqb _ _ (c .before .before .before .before .before .if1 .left),
+      le-ltb _ _ (c .before .before .before .if2 .left),
+      c .before .before .if3 .taken,
+      c .if4 .taken,
+    )
 
 returns-4 : tie.Need-returns-4
 returns-4 c =

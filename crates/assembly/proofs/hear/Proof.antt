@@ -23,7 +23,8 @@ returns-2 c =
     let low : c .before .before .before .before .before .guess .result % 65536 < 65536 = omega arith in
     hears-data (drop (a .at) (a .text .now)) (c .before .before .before .before .before .guess .result)
     (c .before .before .before .before .before .guess .ensures) _
-    (second-is _ _ _ low (c .before .before .before .before .row-of .ensures .0) (c .before .before .before .has-second .ensures) ∙ not-false _ (c .before .before .if1 .left))
+    (second-is _ _ _ low (c .before .before .before .before .row-of .ensures .0) (c .before .before .before .has-second .ensures)
+    ∙ not-false _ (c .before .before .if1 .left))
     (c .before .if2 .taken) (c .data-at .ensures)
 
 returns-3 : tie.Need-returns-3
@@ -32,7 +33,8 @@ returns-3 c =
     let low : c .before .before .before .before .before .guess .result % 65536 < 65536 = omega arith in
     hears-two (drop (a .at) (a .text .now)) (c .before .before .before .before .before .guess .result)
     (c .before .before .before .before .before .guess .ensures) _
-    (second-is _ _ _ low (c .before .before .before .before .row-of .ensures .0) (c .before .before .before .has-second .ensures) ∙ not-false _ (c .before .before .if1 .left))
+    (second-is _ _ _ low (c .before .before .before .before .row-of .ensures .0) (c .before .before .before .has-second .ensures)
+    ∙ not-false _ (c .before .before .if1 .left))
     (c .before .if2 .left) (c .line-at2 .ensures)
 
 pub hear-spec : {M : Type 1} → statement M

@@ -29,7 +29,8 @@ loop-again c =
     let more : c .before .before .before .before .loop .p < length (a .line .now) = omega (arith, l) in (
       omega arith,
       ⊎-elim (λ w. w .1 ∙ sym (same-not (a .text .now) (a .line .now) (a .at) (c .before .before .before .before .loop .p) inside more (w .0 .taken)))
-          (λ w. w .1 ∙ c .before .before .before .before .loop .inv .1 ∙ sym (same-next (a .text .now) (a .line .now) (a .at) (c .before .before .before .before .loop .p) inside more (w .0 .left)))
+          (λ w. w .1 ∙ c .before .before .before .before .loop .inv .1
+          ∙ sym (same-next (a .text .now) (a .line .now) (a .at) (c .before .before .before .before .loop .p) inside more (w .0 .left)))
           (c .if1 .came),
     )
 

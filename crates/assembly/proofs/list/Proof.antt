@@ -25,7 +25,8 @@ returns-2 : tie.Need-returns-2
 returns-2 c =
     let a = c .before .before .before .before .before .before .before .before .before .before .before .before .before .before .args in
     listed-all (a .parcels .now) (a .room .now) _ _
-    (sym (c .before .before .before .before .before .before .before .is-room .ensures) ∙ not-false _ (c .before .before .before .before .before .before .if1 .left))
+    (sym (c .before .before .before .before .before .before .before .is-room .ensures)
+    ∙ not-false _ (c .before .before .before .before .before .before .if1 .left))
     (c .before .before .write .ensures)
 
 pub list-spec : {M : Type 1} → statement M

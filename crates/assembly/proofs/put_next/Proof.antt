@@ -23,7 +23,8 @@ put-line-requires c κs =
     let b = c .before .before .before .before .shared-slice-known2 .given (a .at) in
     let n =
     next-one (a .parcels .now) (a .at) (p .0)
-    (second-is _ _ _ (omega (arith, b)) (c .before .before .before .row-of .ensures .0) (c .before .before .has-second .ensures) ∙ not-true _ (c .before .if1 .taken))
+    (second-is _ _ _ (omega (arith, b)) (c .before .before .before .row-of .ensures .0) (c .before .before .has-second .ensures)
+    ∙ not-true _ (c .before .if1 .taken))
     in
     let e = ap length (n .0) in
     let room = p .1 in
@@ -49,7 +50,8 @@ put-data-requires c κs =
     let b = c .before .before .before .before .before .shared-slice-known2 .given (a .at) in
     let n =
     next-last (a .parcels .now) (a .at) (p .0)
-    (second-is _ _ _ (omega (arith, b)) (c .before .before .before .before .row-of .ensures .0) (c .before .before .before .has-second .ensures) ∙ not-false _ (c .before .before .if1 .left))
+    (second-is _ _ _ (omega (arith, b)) (c .before .before .before .before .row-of .ensures .0)
+    (c .before .before .before .has-second .ensures) ∙ not-false _ (c .before .before .if1 .left))
     (c .before .if2 .taken) in
     let e = ap length (n .0) ∙ data-length _ in
     let room = p .1 in
@@ -94,7 +96,8 @@ returns-3 c =
     let n =
     next-two (a .parcels .now) (a .at) (p .0)
     (second-is _ _ _ (omega (arith, b)) (c .before .before .before .before .before .before .before .before .row-of .ensures .0)
-    (c .before .before .before .before .before .before .before .has-second .ensures) ∙ not-false _ (c .before .before .before .before .before .before .if1 .left))
+    (c .before .before .before .before .before .before .before .has-second .ensures)
+    ∙ not-false _ (c .before .before .before .before .before .before .if1 .left))
     (c .before .before .before .before .before .if2 .left) in
     let k = n .1 in
     (wrote-as (n .0) (c .before .before .put-line2 .ensures .0), (omega (arith, k), omega arith, omega arith))

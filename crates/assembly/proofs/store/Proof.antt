@@ -10,7 +10,8 @@ use Rattle.assembly.proofs.store.Statement.{statement}
 use Rattle.assembly.proofs.store.Tie as tie
 
 abbrev Inv-loop : tie.InvT-loop
-Inv-loop text room₀ plans at₀ n₀ room at n = (k : ℕ) × (done : List ℕ) × Passed text at k done × (length done ≡ n) × (room ≡ sets room₀ 0 done) × (length room ≡ length room₀)
+Inv-loop text room₀ plans at₀ n₀ room at n =
+    (k : ℕ) × (done : List ℕ) × Passed text at k done × (length done ≡ n) × (room ≡ sets room₀ 0 done) × (length room ≡ length room₀)
 
 abbrev μ-loop : tie.MeasureT-loop
 μ-loop text room₀ plans at₀ n₀ room at n = length text - at
@@ -24,7 +25,8 @@ look-requires c κs = (c .loop-test .taken, c .before .before .before .before .p
 put-parcels-requires : tie.Need-put-parcels-requires Inv-loop μ-loop
 put-parcels-requires c κs =
     let L = c .before .before .before .loop .inv in
-    let s = store-next _ _ _ _ _ _ (L .2) (c .before .before .loop-test .taken) (c .before .before .before .before .before .before .pre .0) (c .before .look .ensures) in
+    let s = store-next _ _ _ _ _ _ (L .2) (c .before .before .loop-test .taken) (c .before .before .before .before .before .before .pre .0)
+    (c .before .look .ensures) in
     let fits = s .fits in
     let n = L .3 in
     let same = L .5 in

@@ -25,13 +25,15 @@ loop-again c =
     let a = c .before .before .before .args in
     let s = drop (a .at) (a .text .now) in
     let long = length-drop (a .at) (a .text .now) in
-    let byte : getD s (c .before .before .loop .i) 0 ≡ getD (a .text .now) (a .at + c .before .before .loop .i) 0 = getD-drop (a .at) (a .text .now) (c .before .before .loop .i) 0 in (
+    let byte : getD s (c .before .before .loop .i) 0
+    ≡ getD (a .text .now) (a .at + c .before .before .loop .i) 0 = getD-drop (a .at) (a .text .now) (c .before .before .loop .i) 0 in (
       length-set (c .before .before .loop .rest) (c .before .before .loop .i) _ ∙ c .before .before .loop .inv .0,
       omega arith,
       c .before .before .loop .inv .2
           ∙ copy-next s (c .before .before .loop .rest) (c .before .before .loop .i) (omega (arith, long))
           ∙ ap
-          (λ (b : ℕ). sets (set (c .before .before .loop .rest) (c .before .before .loop .i) b) (c .before .before .loop .i + 1) (drop (c .before .before .loop .i + 1) s))
+          (λ (b : ℕ). sets (set (c .before .before .loop .rest) (c .before .before .loop .i) b) (c .before .before .loop .i + 1)
+          (drop (c .before .before .loop .i + 1) s))
           byte,
     )
 

@@ -30,7 +30,8 @@ returns-2 c =
     let if1 = c .before .before .before .before .before .before .before .before .before .if1 in
     let the-j = c .before .before .before .before .before .before .before .before .before .before .j in
     let start = c .before .before .before .before .before .before .before .before .before .before .before .before in
-    λ p mem. puts SetVL _ _ _ _ mem p _ (c .before .before .put-control .ensures) (rw (start .pre .1, ← the-j .ensures, if1 .left, ← the-i .ensures, if2 .taken)) (rw (vector-length .ensures, a-k .ensures))
+    λ p mem. puts SetVL _ _ _ _ mem p _ (c .before .before .put-control .ensures)
+    (rw (start .pre .1, ← the-j .ensures, if1 .left, ← the-i .ensures, if2 .taken)) (rw (vector-length .ensures, a-k .ensures))
 
 returns-3 : tie.Need-returns-3
 unfolding codeOf code002
@@ -39,12 +40,33 @@ returns-3 c =
     let if1 = c .before .before .before .before .if1 in
     let the-j = c .before .before .before .before .before .j in
     let start = c .before .before .before .before .before .before .before in
-    λ p mem. not-held _ mem p _ (rw (start .pre .1, ← the-j .ensures, if1 .left, ← the-i .ensures, ne-eqb _ _ (c .before .before .if2 .left), ← c .before .k .ensures, ne-eqb _ _ (c .if3 .taken)))
+    λ p mem. not-held _ mem p _ (rw (
+      start .pre .1,
+      ← the-j .ensures,
+      if1 .left,
+      ← the-i .ensures,
+      ne-eqb _ _
+          (c .before .before .if2 .left),
+      ← c .before .k .ensures,
+      ne-eqb _ _ (c .if3 .taken),
+    ))
 
 set-mode-requires : tie.Need-set-mode-requires
 set-mode-requires c κs =
-    let start = c .before .before .before .before .before .before .before .before in
-    (start .pre .0, start .pre .1, rw (← c .before .before .before .before .before .before .j .ensures, c .before .before .before .before .before .if1 .left), rw (← c .before .before .k .ensures, c .before .if3 .left), omega (arith, c .before .before .before .before .i .ensures, c .before .before .before .if2 .left))
+    let start = c .before .before .before .before .before .before .before .before in (
+      start .pre .0,
+      start .pre .1,
+      rw (
+        ← c .before .before .before .before .before .before .j .ensures,
+        c .before .before .before .before .before .if1 .left,
+      ),
+      rw (← c .before .before .k .ensures, c .before .if3 .left),
+      omega (
+        arith,
+        c .before .before .before .before .i .ensures,
+        c .before .before .before .if2 .left,
+      ),
+    )
 
 returns-4 : tie.Need-returns-4
 returns-4 c = c .before .before .set-mode .ensures

@@ -15,7 +15,15 @@ returns c =
     let is-user = c .before .before .before .before .is-user in
     let start = c .before .before .before .before .before .before .before in
     λ p mem. puts Pass _ _ _ _ mem p _ (refl, puts-nothing _)
-    (rw (start .pre .1, ← the-i .ensures, ne-eqb _ _ (c .before .before .if1 .taken), the-i .ensures, ← is-user .ensures, ← c .before .passes .ensures, c .if2 .taken)) refl
+    (rw (
+      start .pre .1,
+      ← the-i .ensures,
+      ne-eqb _ _ (c .before .before .if1 .taken),
+      the-i .ensures,
+      ← is-user .ensures,
+      ← c .before .passes .ensures,
+      c .if2 .taken,
+    )) refl
 
 returns-2 : tie.Need-returns-2
 unfolding codeOf code001
@@ -24,7 +32,15 @@ returns-2 c =
     let is-user = c .before .before .before .before .is-user in
     let start = c .before .before .before .before .before .before .before in
     λ p mem. not-held _ mem p _
-    (rw (start .pre .1, ← the-i .ensures, ne-eqb _ _ (c .before .before .if1 .taken), the-i .ensures, ← is-user .ensures, ← c .before .passes .ensures, c .if2 .left))
+    (rw (
+      start .pre .1,
+      ← the-i .ensures,
+      ne-eqb _ _ (c .before .before .if1 .taken),
+      the-i .ensures,
+      ← is-user .ensures,
+      ← c .before .passes .ensures,
+      c .if2 .left,
+    ))
 
 returns-3 : tie.Need-returns-3
 unfolding codeOf code001

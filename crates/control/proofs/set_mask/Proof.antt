@@ -22,7 +22,8 @@ returns c =
     let if1 = c .before .before .before .before .before .before .before .before .if1 in
     let the-i = c .before .before .before .before .before .before .before .before .before .i in
     let start = c .before .before .before .before .before .before .before .before .before .before .before in
-    λ p mem. puts VMFromS _ _ _ _ mem p _ (c .before .before .put-control .ensures) (rw (start .pre .1, ← the-i .ensures, if1 .taken, ← the-k .ensures, if2 .taken)) (rw (s-j .ensures))
+    λ p mem. puts VMFromS _ _ _ _ mem p _ (c .before .before .put-control .ensures)
+    (rw (start .pre .1, ← the-i .ensures, if1 .taken, ← the-k .ensures, if2 .taken)) (rw (s-j .ensures))
 
 returns-2 : tie.Need-returns-2
 unfolding codeOf

@@ -7,7 +7,8 @@ use Rattle.desk.proofs.assemble.Tie as tie
 
 returns : tie.Need-returns
 returns c =
-    gives-refusal (cal-long _ _ (c .before .before .before .before .if1 .taken)) (c .before .before .put-refused-line .ensures .0) (c .before .before .put-refused-line .ensures .1)
+    gives-refusal (cal-long _ _ (c .before .before .before .before .if1 .taken)) (c .before .before .put-refused-line .ensures .0)
+    (c .before .before .put-refused-line .ensures .1)
 
 returns-2 : tie.Need-returns-2
 returns-2 c =
@@ -20,13 +21,17 @@ returns-3 : tie.Need-returns-3
 returns-3 c =
     gives-refusal (cal-bad _ _ (c .before .before .before .before .before .before .before .before .before .before .before .if1 .left) _ (sym
     (c .before .before .before .before .before .before .before .before .before .assemble .ensures .0)
-    ∙ c .before .before .before .before .before .line .given .1)) (c .before .before .put-refused-line2 .ensures .0) (c .before .before .put-refused-line2 .ensures .1)
+    ∙ c .before .before .before .before .before .line .given .1)) (c .before .before .put-refused-line2 .ensures .0) (c .before .before
+    .put-refused-line2 .ensures .1)
 
 returns-4 : tie.Need-returns-4
 returns-4 c =
     gives-refusal (cal-full _ _ (c .before .before .before .before .before .before .before .before .before .before .if1 .left) (sym
     (c .before .before .before .before .before .before .before .before .assemble .ensures .0)
-    ∙ c .before .before .before .before .enum-told .given .1)) (c .before .before .put-refused .ensures .0) (omega (arith, c .before .before .put-refused .ensures .1))
+    ∙ c .before .before .before .before .enum-told .given .1)) (c .before .before .put-refused .ensures .0) (omega (
+      arith,
+      c .before .before .put-refused .ensures .1,
+    ))
 
 pub assemble-spec : {M : Type 1} → statement M
 assemble-spec =

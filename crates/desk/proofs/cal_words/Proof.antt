@@ -16,7 +16,12 @@ slice-aggregate-put-sheet c =
 put-sheet-requires : tie.Need-put-sheet-requires
 put-sheet-requires c κs =
     let h = c .before .before .before .before .before .before .before .before .before .assemble .ensures .holds _ (c .before .before .before .n .given .1) in
-    omega (arith, held (c .before .before .before .before .before .before .before .before .before .assemble .ensures) _ (c .before .before .before .n .given .1), h .2)
+    omega (
+      arith,
+      held (c .before .before .before .before .before .before .before .before .before .assemble .ensures) _
+          (c .before .before .before .n .given .1),
+      h .2,
+    )
 
 returns : tie.Need-returns
 unfolding calWordsOf

@@ -12,7 +12,8 @@ use Rattle.desk.proofs.put_blanks.Statement.{statement}
 use Rattle.desk.proofs.put_blanks.Tie as tie
 
 abbrev Inv-loop : tie.InvT-loop
-Inv-loop out₀ at n i₀ out i = (i ≤ n) × (length out ≡ length out₀) × ((m : List ℕ) (q : ℕ) → Wrote out (at + i) (blanks (n - i)) m q → Wrote out₀ at (blanks n) m q)
+Inv-loop out₀ at n i₀ out i =
+    (i ≤ n) × (length out ≡ length out₀) × ((m : List ℕ) (q : ℕ) → Wrote out (at + i) (blanks (n - i)) m q → Wrote out₀ at (blanks n) m q)
 
 abbrev μ-loop : tie.MeasureT-loop
 μ-loop out₀ at n i₀ out i = n - i
@@ -24,7 +25,8 @@ loop-again : tie.Need-loop-again Inv-loop μ-loop
 loop-again c = (
   omega arith,
   c .before .before .put-byte .kept .0 ∙ c .before .before .before .before .before .loop .inv .1,
-  λ m q w. c .before .before .before .before .before .loop .inv .2 m q (blanks-next _ _ _ (c .before .before .before .before .loop-test .taken) (c .before .before .put-byte .ensures) w),
+  λ m q w. c .before .before .before .before .before .loop .inv .2 m q
+      (blanks-next _ _ _ (c .before .before .before .before .loop-test .taken) (c .before .before .put-byte .ensures) w),
 )
 
 same-length : tie.Need-same-length Inv-loop μ-loop

@@ -25,8 +25,15 @@ returns c =
     let a = c .before .before .before .before .before .before .before .before .before .before .before .before .args .address in
     let e : c .before .before .before .before .before .before .before .before .before .put-number .result ≡ length (shown 8 1 (a % 16777216)) = omega
     (arith, c .before .before .before .before .before .before .before .before .before .put-number .ensures .0 .place) in (
-      wrote-as (column-is a _ e) (then (c .before .before .before .before .before .before .put-blanks .ensures .0) (c .before .before .put-number2 .ensures .0)),
-      omega (arith, e, address-most a, c .before .before .before .before .before .before .put-blanks .ensures .1, c .before .before .put-number2 .ensures .0 .place),
+      wrote-as (column-is a _ e) (then (c .before .before .before .before .before .before .put-blanks .ensures .0)
+          (c .before .before .put-number2 .ensures .0)),
+      omega (
+        arith,
+        e,
+        address-most a,
+        c .before .before .before .before .before .before .put-blanks .ensures .1,
+        c .before .before .put-number2 .ensures .0 .place,
+      ),
     )
 
 pub put-column-spec : {M : Type 1} → statement M

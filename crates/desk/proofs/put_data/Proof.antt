@@ -17,7 +17,8 @@ put-text-requires c κs =
 
 returns : tie.Need-returns
 returns c =
-    let small : c .before .before .before .before .before .before .put-data .result ≤ 16 = omega (arith, c .before .before .before .before .before .before .put-data .ensures .1) in
+    let small : c .before .before .before .before .before .before .put-data .result ≤ 16 = omega
+    (arith, c .before .before .before .before .before .before .put-data .ensures .1) in
     let h = copied (c .before .before .before .before .before .before .put-data .ensures .0) small (c .before .before .put-text .ensures .0) in
     (h .0, omega (arith, h .1))
 

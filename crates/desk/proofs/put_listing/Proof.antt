@@ -8,7 +8,8 @@ use Rattle.desk.proofs.put_listing.Tie as tie
 
 returns : tie.Need-returns
 returns c =
-    let h = listed-fits _ _ _ (c .before .before .before .before .before .list .ensures .1) _ (sym (c .before .before .before .before .before .list .ensures .0) ∙ c .before .n .given .1) in
+    let h = listed-fits _ _ _ (c .before .before .before .before .before .list .ensures .1) _
+    (sym (c .before .before .before .before .before .list .ensures .0) ∙ c .before .n .given .1) in
     (h .0, λ l. h .1)
 
 returns-2 : tie.Need-returns-2

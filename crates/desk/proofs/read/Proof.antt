@@ -7,19 +7,22 @@ use Rattle.desk.proofs.read.Tie as tie
 
 returns : tie.Need-returns
 returns c =
-    gives-refusal (octal-long _ _ (c .before .before .before .before .if1 .taken)) (c .before .before .put-refused-line .ensures .0) (c .before .before .put-refused-line .ensures .1)
+    gives-refusal (octal-long _ _ (c .before .before .before .before .if1 .taken)) (c .before .before .put-refused-line .ensures .0)
+    (c .before .before .put-refused-line .ensures .1)
 
 returns-2 : tie.Need-returns-2
 returns-2 c =
     let h = octal-holds _ _ (c .before .before .before .before .before .before .before .if1 .left) _
-    (c .before .before .before .before .before .read .ensures .1) _ (sym (c .before .before .before .before .before .read .ensures .0) ∙ c .before .n .given .1) in
+    (c .before .before .before .before .before .read .ensures .1) _
+    (sym (c .before .before .before .before .before .read .ensures .0) ∙ c .before .n .given .1) in
     gives-some (h .0) (h .1) (h .2)
 
 returns-3 : tie.Need-returns-3
 returns-3 c =
     gives-refusal (octal-bad _ _ (c .before .before .before .before .before .before .before .before .before .before .before .if1 .left) _ (sym
     (c .before .before .before .before .before .before .before .before .before .read .ensures .0)
-    ∙ c .before .before .before .before .before .line .given .1)) (c .before .before .put-refused-line2 .ensures .0) (c .before .before .put-refused-line2 .ensures .1)
+    ∙ c .before .before .before .before .before .line .given .1)) (c .before .before .put-refused-line2 .ensures .0) (c .before .before
+    .put-refused-line2 .ensures .1)
 
 returns-4 : tie.Need-returns-4
 returns-4 c =

@@ -51,4 +51,5 @@ arm-spec =
     (λ c. rw (c .match .keys118)) (λ c. rw (c .match .keys119)) (λ c. rw (c .match .keys120))
     (λ c. rw (c .match .keys121)) (λ c. rw (c .match .keys122)) (λ c. rw (c .match .keys123))
     (λ c. rw (c .match .keys124)) (λ c. rw (c .match .keys125)) (λ c. rw (c .match .keys126))
-    (λ c. rw (c .match .keys127)) (λ c. rw (c .match .keys128)) (λ c. let l : 128 ≤ c .before .args .code = none-in Unit _ 0 128 (c .match .rest) (omega arith) in absurd (omega arith)))
+    (λ c. rw (c .match .keys127)) (λ c. rw (c .match .keys128))
+    (λ c. let l : 128 ≤ c .before .args .code = none-in Unit _ 0 128 (c .match .rest) (omega arith) in absurd (omega arith)))

@@ -21,15 +21,20 @@ from-020-spec =
     (λ c κs. let s = c .before .before .before .before .pre in alone (s .0) (s .1 .0) (s .1 .1) (c .before .match .keys9) (λ c. refl))
     (λ c κs. let s = c .before .before .before .before .pre in alone (s .0) (s .1 .0) (s .1 .1) (c .before .match .keys10) (λ c. refl))
     (λ c κs. let s = c .before .before .before .before .pre in alone (s .0) (s .1 .0) (s .1 .1) (c .before .match .keys11) (λ c. refl))
-    (λ c κs. let s = c .before .before .before .before .before .pre in (alone (s .0) (s .1 .0) (s .1 .1) (c .before .before .match .keys12) (λ c. refl), reached _ _ _ (s .0 .reaches)))
+    (λ c κs. let s = c .before .before .before .before .before .pre in
+    (alone (s .0) (s .1 .0) (s .1 .1) (c .before .before .match .keys12) (λ c. refl), reached _ _ _ (s .0 .reaches)))
     (λ c κs. search needs)
-    (λ c κs. let s = c .before .before .before .before .before .pre in (alone (s .0) (s .1 .0) (s .1 .1) (c .before .before .match .keys13) (λ c. refl), reached _ _ _ (s .0 .reaches)))
+    (λ c κs. let s = c .before .before .before .before .before .pre in
+    (alone (s .0) (s .1 .0) (s .1 .1) (c .before .before .match .keys13) (λ c. refl), reached _ _ _ (s .0 .reaches)))
     (λ c κs. search needs)
-    (λ c κs. let s = c .before .before .before .before .before .pre in (alone (s .0) (s .1 .0) (s .1 .1) (c .before .before .match .keys14) (λ c. refl), reached _ _ _ (s .0 .reaches)))
+    (λ c κs. let s = c .before .before .before .before .before .pre in
+    (alone (s .0) (s .1 .0) (s .1 .1) (c .before .before .match .keys14) (λ c. refl), reached _ _ _ (s .0 .reaches)))
     (λ c κs. search needs)
-    (λ c κs. let s = c .before .before .before .before .before .pre in (alone (s .0) (s .1 .0) (s .1 .1) (c .before .before .match .keys15) (λ c. refl), reached _ _ _ (s .0 .reaches)))
+    (λ c κs. let s = c .before .before .before .before .before .pre in
+    (alone (s .0) (s .1 .0) (s .1 .1) (c .before .before .match .keys15) (λ c. refl), reached _ _ _ (s .0 .reaches)))
     (λ c κs. search needs)
-    (λ c κs. let s = c .before .before .before .before .before .pre in (s .0, (s .1 .0, s .1 .1, past-020 _ _ (s .1 .0) (s .1 .1) (s .1 .2) (c .before .before .match .rest))))
+    (λ c κs. let s = c .before .before .before .before .before .pre in
+    (s .0, (s .1 .0, s .1 .1, past-020 _ _ (s .1 .0) (s .1 .1) (s .1 .2) (c .before .before .match .rest))))
     (λ c. search needs)
     (λ c. search needs)
     (λ c. c .before .before .enter .ensures)

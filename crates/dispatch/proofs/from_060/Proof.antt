@@ -12,12 +12,14 @@ from-060-spec =
     (λ c κs. let s = c .before .before .before .before .pre in alone (s .0) (s .1 .0) (s .1 .1) (c .before .match .keys1) (λ c. refl))
     (λ c κs. let s = c .before .before .before .before .pre in alone (s .0) (s .1 .0) (s .1 .1) (c .before .match .keys2) (λ c. refl))
     (λ c κs. let s = c .before .before .before .before .pre in alone (s .0) (s .1 .0) (s .1 .1) (c .before .match .keys3) (λ c. refl))
-    (λ c κs. let s = c .before .before .before .before .pre in (alone (s .0) (s .1 .0) (s .1 .1) (c .before .match .keys4) (λ c. refl), (s .0 .frame, s .0 .control, s .0 .processor)))
+    (λ c κs. let s = c .before .before .before .before .pre in
+    (alone (s .0) (s .1 .0) (s .1 .1) (c .before .match .keys4) (λ c. refl), (s .0 .frame, s .0 .control, s .0 .processor)))
     (λ c κs. let s = c .before .before .before .before .pre in alone (s .0) (s .1 .0) (s .1 .1) (c .before .match .keys5) (λ c. refl))
     (λ c κs. let s = c .before .before .before .before .pre in alone (s .0) (s .1 .0) (s .1 .1) (c .before .match .keys6) (λ c. refl))
     (λ c κs. let s = c .before .before .before .before .pre in alone (s .0) (s .1 .0) (s .1 .1) (c .before .match .keys7) (λ c. refl))
     (λ c κs. let s = c .before .before .before .before .pre in alone (s .0) (s .1 .0) (s .1 .1) (c .before .match .keys8) (λ c. refl))
-    (λ c κs. let s = c .before .before .before .before .before .pre in (s .0, (s .1 .0, s .1 .1, past-060 _ _ (s .1 .0) (s .1 .1) (s .1 .2) (c .before .before .match .rest))))
+    (λ c κs. let s = c .before .before .before .before .before .pre in
+    (s .0, (s .1 .0, s .1 .1, past-060 _ _ (s .1 .0) (s .1 .1) (s .1 .2) (c .before .before .match .rest))))
     (λ c. search needs)
     (λ c. c .before .before .sum .ensures _ _)
     (λ c. search needs)

@@ -9,10 +9,14 @@ pub from-100-spec : {M : Type 1} → statement M
 from-100-spec =
     tie.close
     (tie.spec
-    (λ c κs. let s = c .before .before .before .before .before .pre in ((s .0 .long, group _ _ _ (s .1 .0) (s .1 .1) (c .before .before .match .keys1) (λ c. refl)), s .0 .reaches))
-    (λ c κs. let s = c .before .before .before .before .before .pre in ((s .0 .long, group _ _ _ (s .1 .0) (s .1 .1) (c .before .before .match .keys2) (λ c. refl)), s .0 .reaches))
-    (λ c κs. let s = c .before .before .before .before .before .pre in ((s .0 .long, group _ _ _ (s .1 .0) (s .1 .1) (c .before .before .match .keys3) (λ c. refl)), s .0 .reaches))
-    (λ c κs. let s = c .before .before .before .before .before .pre in ((s .0 .long, group _ _ _ (s .1 .0) (s .1 .1) (c .before .before .match .keys4) (λ c. refl)), s .0 .reaches))
+    (λ c κs. let s = c .before .before .before .before .before .pre in
+    ((s .0 .long, group _ _ _ (s .1 .0) (s .1 .1) (c .before .before .match .keys1) (λ c. refl)), s .0 .reaches))
+    (λ c κs. let s = c .before .before .before .before .before .pre in
+    ((s .0 .long, group _ _ _ (s .1 .0) (s .1 .1) (c .before .before .match .keys2) (λ c. refl)), s .0 .reaches))
+    (λ c κs. let s = c .before .before .before .before .before .pre in
+    ((s .0 .long, group _ _ _ (s .1 .0) (s .1 .1) (c .before .before .match .keys3) (λ c. refl)), s .0 .reaches))
+    (λ c κs. let s = c .before .before .before .before .before .pre in
+    ((s .0 .long, group _ _ _ (s .1 .0) (s .1 .1) (c .before .before .match .keys4) (λ c. refl)), s .0 .reaches))
     (λ c κs. let s = c .before .before .before .before .pre in (vector-of _ _ _ (s .0), arm-says _ _ 0o140 (s .1 .0) (s .1 .1) (c .before .match .keys5)))
     (λ c κs. let s = c .before .before .before .before .pre in (vector-of _ _ _ (s .0), inl (own _ _ _ (s .1 .0) (s .1 .1) (c .before .match .keys6) (λ c. refl))))
     (λ c κs. let s = c .before .before .before .before .pre in (vector-of _ _ _ (s .0), inr (own _ _ _ (s .1 .0) (s .1 .1) (c .before .match .keys7) (λ c. refl))))

@@ -15,7 +15,8 @@ returns : tie.Need-returns
 returns c =
     let fetch = c .before .before .before .before .fetch in
     let start = c .before .before .before .before .before .before .before .before in
-    works-lost _ _ _ _ (sym (fetched _ _ _ _ (start .pre .0 .reaches) (start .pre .1)) ∙ sym (fetch .ensures) ∙ c .before .before .enum-told .given .1) (c .no-parcel .ensures)
+    works-lost _ _ _ _ (sym (fetched _ _ _ _ (start .pre .0 .reaches) (start .pre .1)) ∙ sym (fetch .ensures)
+    ∙ c .before .before .enum-told .given .1) (c .no-parcel .ensures)
 
 arm-requires : tie.Need-arm-requires
 arm-requires c κs =

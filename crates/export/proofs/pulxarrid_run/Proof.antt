@@ -10,13 +10,15 @@ use Rattle.export.proofs.pulxarrid_run.Tie as tie
 returns : tie.Need-returns
 returns c =
     let run = c .before .before .before .before .run in
-    rw (← run .ensures .0) (refused-left _ (endingNumbers (run .result .ending)) (c .before .of-ending .ensures) (λ (l : List ℕ). getD l 1 0 ∷ getD l 2 0 ∷ run .result .steps ∷ []) _ _ _ (c .if1 .taken))
+    rw (← run .ensures .0) (refused-left _ (endingNumbers (run .result .ending)) (c .before .of-ending .ensures)
+    (λ (l : List ℕ). getD l 1 0 ∷ getD l 2 0 ∷ run .result .steps ∷ []) _ _ _ (c .if1 .taken))
 
 returns-2 : tie.Need-returns-2
 returns-2 c =
     let run = c .before .before .before .before .before .run in
     let start = c .before .before .before .before .before .before .before .before .before in
-    rw (← run .ensures .0) (made-left _ (endingNumbers (run .result .ending)) (c .before .before .of-ending .ensures) (λ (l : List ℕ). getD l 1 0 ∷ getD l 2 0 ∷ run .result .steps ∷ []) _ _ (start .args .report .now) (c .before .if1 .left))
+    rw (← run .ensures .0) (made-left _ (endingNumbers (run .result .ending)) (c .before .before .of-ending .ensures)
+    (λ (l : List ℕ). getD l 1 0 ∷ getD l 2 0 ∷ run .result .steps ∷ []) _ _ (start .args .report .now) (c .before .if1 .left))
 
 pub pulxarrid-run-spec : {M : Type 1} → statement M
 pulxarrid-run-spec =

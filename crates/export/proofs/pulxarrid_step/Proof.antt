@@ -10,13 +10,15 @@ use Rattle.export.proofs.pulxarrid_step.Tie as tie
 returns : tie.Need-returns
 returns c =
     let step = c .before .before .before .before .step in
-    rw (← step .ensures .0) (refused-left _ (replyNumbers (step .result)) (c .before .of-reply .ensures) (λ (l : List ℕ). getD l 1 0 ∷ getD l 2 0 ∷ []) _ _ _ (c .if1 .taken))
+    rw (← step .ensures .0) (refused-left _ (replyNumbers (step .result)) (c .before .of-reply .ensures)
+    (λ (l : List ℕ). getD l 1 0 ∷ getD l 2 0 ∷ []) _ _ _ (c .if1 .taken))
 
 returns-2 : tie.Need-returns-2
 returns-2 c =
     let step = c .before .before .before .before .before .step in
     let start = c .before .before .before .before .before .before .before .before .before in
-    rw (← step .ensures .0) (made-left _ (replyNumbers (step .result)) (c .before .before .of-reply .ensures) (λ (l : List ℕ). getD l 1 0 ∷ getD l 2 0 ∷ []) _ _ (start .args .answer .now) (c .before .if1 .left))
+    rw (← step .ensures .0) (made-left _ (replyNumbers (step .result)) (c .before .before .of-reply .ensures)
+    (λ (l : List ℕ). getD l 1 0 ∷ getD l 2 0 ∷ []) _ _ (start .args .answer .now) (c .before .if1 .left))
 
 pub pulxarrid-step-spec : {M : Type 1} → statement M
 pulxarrid-step-spec =

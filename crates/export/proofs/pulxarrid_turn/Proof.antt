@@ -10,13 +10,15 @@ use Rattle.export.proofs.pulxarrid_turn.Tie as tie
 returns : tie.Need-returns
 returns c =
     let turn = c .before .before .before .before .turn in
-    rw (← turn .ensures .0) (refused-left _ (lastNumbers (turn .result .last)) (c .before .of-last .ensures) (λ (l : List ℕ). getD l 1 0 ∷ getD l 2 0 ∷ turn .result .steps ∷ []) _ _ _ (c .if1 .taken))
+    rw (← turn .ensures .0) (refused-left _ (lastNumbers (turn .result .last)) (c .before .of-last .ensures)
+    (λ (l : List ℕ). getD l 1 0 ∷ getD l 2 0 ∷ turn .result .steps ∷ []) _ _ _ (c .if1 .taken))
 
 returns-2 : tie.Need-returns-2
 returns-2 c =
     let turn = c .before .before .before .before .before .turn in
     let start = c .before .before .before .before .before .before .before .before .before in
-    rw (← turn .ensures .0) (made-left _ (lastNumbers (turn .result .last)) (c .before .before .of-last .ensures) (λ (l : List ℕ). getD l 1 0 ∷ getD l 2 0 ∷ turn .result .steps ∷ []) _ _ (start .args .report .now) (c .before .if1 .left))
+    rw (← turn .ensures .0) (made-left _ (lastNumbers (turn .result .last)) (c .before .before .of-last .ensures)
+    (λ (l : List ℕ). getD l 1 0 ∷ getD l 2 0 ∷ turn .result .steps ∷ []) _ _ (start .args .report .now) (c .before .if1 .left))
 
 pub pulxarrid-turn-spec : {M : Type 1} → statement M
 pulxarrid-turn-spec =

@@ -5,7 +5,8 @@ use Rattle.line.proofs.code_at.Statement.{statement}
 use Rattle.line.proofs.code_at.Tie as tie
 
 cast-result : tie.Need-cast-result
-cast-result c = let e = code-entry _ (c .before .args .row) (c .before .args .t) (c .before .pre .2) (c .before .pre .0) (c .before .pre .1) .1 in omega (arith, e)
+cast-result c =
+    let e = code-entry _ (c .before .args .row) (c .before .args .t) (c .before .pre .2) (c .before .pre .0) (c .before .pre .1) .1 in omega (arith, e)
 
 returns : tie.Need-returns
 returns c = code-entry _ (c .before .args .row) (c .before .args .t) (c .before .pre .2) (c .before .pre .0) (c .before .pre .1)

@@ -7,11 +7,13 @@ use Rattle.line.proofs.has_second.Tie as tie
 
 returns : tie.Need-returns
 unfolding secondRow
-returns c = simp (lt-ltb _ _ (c .if1 .taken), lt-leb 53 (c .before .args .row) (omega arith), lt-leb 79 (c .before .args .row) (omega arith), and-true, or-false)
+returns c =
+    simp (lt-ltb _ _ (c .if1 .taken), lt-leb 53 (c .before .args .row) (omega arith), lt-leb 79 (c .before .args .row) (omega arith), and-true, or-false)
 
 returns-2 : tie.Need-returns-2
 unfolding secondRow
-returns-2 c = simp (le-ltb _ _ (c .before .if1 .left), lt-ltb _ _ (c .if2 .taken), lt-leb 79 (c .before .before .args .row) (omega arith), and-true, and-false, or-false)
+returns-2 c =
+    simp (le-ltb _ _ (c .before .if1 .left), lt-ltb _ _ (c .if2 .taken), lt-leb 79 (c .before .before .args .row) (omega arith), and-true, and-false, or-false)
 
 returns-3 : tie.Need-returns-3
 unfolding secondRow

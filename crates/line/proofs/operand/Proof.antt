@@ -28,8 +28,15 @@ returns-4 c =
 
 returns-5 : tie.Need-returns-5
 returns-5 c =
-    let none : 64 - getD (c .before .before .before .before .before .args .fields .now) (c .before .before .before .before .before .args .code % 8) 0 ≡ 0 = omega arith in
-    simp (ne-eqb _ _ (c .before .before .if2 .left), ne-eqb _ _ (c .before .if3 .left), eq-eqb (c .before .before .before .before .before .args .code / 8) 2 (omega arith), none)
+    let none : 64 - getD (c .before .before .before .before .before .args .fields .now)
+    (c .before .before .before .before .before .args .code % 8) 0 ≡ 0 = omega arith in
+    simp (
+      ne-eqb _ _ (c .before .before .if2 .left),
+      ne-eqb _ _ (c .before .if3 .left),
+      eq-eqb
+          (c .before .before .before .before .before .args .code / 8) 2 (omega arith),
+      none,
+    )
 
 pub operand-spec : {M : Type 1} → statement M
 operand-spec =

@@ -29,7 +29,12 @@ put-two-digits-requires-2 c κs =
 put-two-digits-requires-3 : tie.Need-put-two-digits-requires-3
 put-two-digits-requires-3 c κs =
     let same = simp length-set at (c .before .before .before .before .before .before .before .put-two-digits .kept .0) in
-    omega (arith, same, c .before .before .before .put-two-digits2 .kept .0, c .before .before .before .before .before .before .before .before .before .before .pre)
+    omega (
+      arith,
+      same,
+      c .before .before .before .put-two-digits2 .kept .0,
+      c .before .before .before .before .before .before .before .before .before .before .pre,
+    )
 
 slice-write-line-6 : tie.Need-slice-write-line-6
 slice-write-line-6 c =

@@ -29,7 +29,8 @@ put-two-digits-requires c κs =
 returns-2 : tie.Need-returns-2
 returns-2 c =
     let n = c .before .before .before .before .before .before .before .args .n in
-    wrote-as (shown-two n (c .before .before .before .before .if2 .left) (c .before .before .before .before .before .if1 .taken)) (c .before .before .put-two-digits .ensures)
+    wrote-as (shown-two n (c .before .before .before .before .if2 .left) (c .before .before .before .before .before .if1 .taken))
+    (c .before .before .put-two-digits .ensures)
 
 slice-write-line-2 : tie.Need-slice-write-line-2
 slice-write-line-2 c =
@@ -55,7 +56,8 @@ returns-3 c =
     let n = c .before .before .before .before .before .before .before .before .args .n in
     let big = c .before .before .before .before .before .before .if1 .left in
     let text = shown-more n big ∙ ap (λ (l : List ℕ). l ++ digits 8 2 n) (shown-one (n / 64) (omega arith)) in
-    wrote-as text (placed (then (wrote-digit (n / 64) _ (c .before .before .before .before .digit2 .ensures)) (c .before .before .put-two-digits2 .ensures)) (omega arith))
+    wrote-as text (placed (then (wrote-digit (n / 64) _ (c .before .before .before .before .digit2 .ensures))
+    (c .before .before .put-two-digits2 .ensures)) (omega arith))
 
 put-two-digits-requires-3 : tie.Need-put-two-digits-requires-3
 put-two-digits-requires-3 c κs =

@@ -44,7 +44,8 @@ returns-2 : tie.Need-returns-2
 returns-2 c =
     let a = c .before .before .before .before .before .before .before .before .before .args in
     let p = c .before .before .before .before .before .before .before .before .before .pre in
-    let made = c .before .before .before .before .decode .ensures ∙ ap (instructionBy (a .row)) (c .before .before .before .before .before .before .fields .ensures) in
+    let made = c .before .before .before .before .decode .ensures
+    ∙ ap (instructionBy (a .row)) (c .before .before .before .before .before .before .fields .ensures) in
     let e = line-spelled (a .x) (a .m) (a .row) _ _ (p .2) (p .1) (p .4) made (c .before .before .before .before .before .before .before .if1 .left) in
     let w = wrote-as e (c .before .before .put-instruction .ensures) in
     let n = line-most (a .x) (a .m) (p .2) (p .3) in

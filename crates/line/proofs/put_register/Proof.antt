@@ -28,7 +28,8 @@ slice-write-line-3 c =
 returns : tie.Need-returns
 returns c =
     let a = c .before .before .before .before .args in
-    wrote-register (a .letter) (a .number) (c .before .before .if1 .taken) (placed (wrote-two (a .number) _ _ (omega arith) (c .before .digit .ensures) (c .digit2 .ensures)) (omega arith))
+    wrote-register (a .letter) (a .number) (c .before .before .if1 .taken)
+    (placed (wrote-two (a .number) _ _ (omega arith) (c .before .digit .ensures) (c .digit2 .ensures)) (omega arith))
 
 slice-write-line-4 : tie.Need-slice-write-line-4
 slice-write-line-4 c =

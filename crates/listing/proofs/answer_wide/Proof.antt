@@ -28,7 +28,11 @@ slice-reshare-prefix-write-all c =
 
 slice-aggregate-write-all : tie.Need-slice-aggregate-write-all
 slice-aggregate-write-all c =
-    sym (length-take-le _ _ (omega (arith, c .before .before .before .before .before .before .before .before .read .ensures .refused _ (c .before .before .end .given .1) .1)))
+    sym (length-take-le _ _ (omega (
+      arith,
+      c .before .before .before .before .before .before .before .before .read .ensures .refused _
+          (c .before .before .end .given .1) .1,
+    )))
 
 pub answer-wide-spec : {M : Type 1} → statement M
 answer-wide-spec =

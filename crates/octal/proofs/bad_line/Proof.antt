@@ -14,7 +14,8 @@ use Rattle.octal.proofs.bad_line.Statement.{statement}
 use Rattle.octal.proofs.bad_line.Tie as tie
 
 abbrev Inv-loop : tie.InvT-loop
-Inv-loop text at line p₀ d₀ p d = (d ≤ 6) × (p < 8 ^ d) × (allDigits 8 6 text at ≡ allDigits 8 (6 - d) text (at + d)) × (numberFrom 8 6 text at 0 ≡ numberFrom 8 (6 - d) text (at + d) p)
+Inv-loop text at line p₀ d₀ p d =
+    (d ≤ 6) × (p < 8 ^ d) × (allDigits 8 6 text at ≡ allDigits 8 (6 - d) text (at + d)) × (numberFrom 8 6 text at 0 ≡ numberFrom 8 (6 - d) text (at + d) p)
 
 abbrev μ-loop : tie.MeasureT-loop
 μ-loop text at line p₀ d₀ p d = 6 - d
@@ -72,7 +73,8 @@ returns-3 c =
 
 returns-4 : tie.Need-returns-4 Inv-loop μ-loop Inv-lines μ-lines
 returns-4 c =
-    sym (c .before .before .before .before .before .before .lines .inv .1 ∙ line-bad _ _ _ _ (c .before .before .before .before .before .if1 .left) (no-end _ _ (c .if4 .taken)))
+    sym (c .before .before .before .before .before .before .lines .inv .1
+    ∙ line-bad _ _ _ _ (c .before .before .before .before .before .if1 .left) (no-end _ _ (c .if4 .taken)))
 
 returns-5 : tie.Need-returns-5 Inv-loop μ-loop Inv-lines μ-lines
 returns-5 c =

@@ -7,7 +7,11 @@ use Rattle.octal.proofs.put_parcel.Statement.{statement}
 use Rattle.octal.proofs.put_parcel.Tie as tie
 
 returns : tie.Need-returns
-returns c = (wrote-to (omega arith) (then (wrote-digits 8 6 _ (c .before .before .before .before .before .before .put-digits .ensures)) (wrote-byte (c .before .before .put-byte .ensures))), refl)
+returns c = (
+  wrote-to (omega arith) (then (wrote-digits 8 6 _ (c .before .before .before .before .before .before .put-digits .ensures))
+      (wrote-byte (c .before .before .put-byte .ensures))),
+  refl,
+)
 
 pub put-parcel-spec : {M : Type 1} → statement M
 put-parcel-spec =

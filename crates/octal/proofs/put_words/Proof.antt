@@ -31,7 +31,8 @@ loop-again c = (
   c .before .before .put-word .kept .0 ∙ c .before .before .before .before .before .before .loop .inv .1,
   omega (arith, c .before .before .put-word .ensures .1),
   λ m q w. c .before .before .before .before .before .before .loop .inv .3 m q (wrote-as (words-next _ _ _ _ _
-      (c .before .before .before .before .before .loop-test .taken) (c .before .before .before .word-at .ensures)) (then (c .before .before .put-word .ensures .0) w)),
+      (c .before .before .before .before .before .loop-test .taken) (c .before .before .before .word-at .ensures)) (then
+      (c .before .before .put-word .ensures .0) w)),
 )
 
 same-length : tie.Need-same-length Inv-loop μ-loop

@@ -6,7 +6,8 @@ use lib.ListN.{length}
 use lib.Dec.{lit<}
 use Rattle.text.proofs.Reading.{digits-most}
 use Rattle.octal.specs.Numbers.{allDigits, numberFrom}
-use Rattle.octal.proofs.Digit.{number-next, number-done, all-next, all-not, all-done, times-base, digit-wide, no-digit, too-long, other-sign, too-high, spells}
+use Rattle.octal.proofs.Digit.{number-next, number-done, all-next, all-not, all-done, times-base}
+use Rattle.octal.proofs.Digit.{digit-wide, no-digit, too-long, other-sign, too-high, spells}
 use borrow.Author.Needs.{needs}
 use Rattle.octal.proofs.spelled.Statement.{statement}
 use Rattle.octal.proofs.spelled.Tie as tie
@@ -59,7 +60,8 @@ add-n c =
 loop-again : tie.Need-loop-again Inv-loop μ-loop
 loop-again c = (
   omega arith,
-  digit-wide _ _ _ _ (c .before .before .before .before .before .before .before .before .pre .0) (c .before .digit-of .ensures .1) (c .before .before .before .before .loop .inv .1),
+  digit-wide _ _ _ _ (c .before .before .before .before .before .before .before .before .pre .0) (c .before .digit-of .ensures .1)
+      (c .before .before .before .before .loop .inv .1),
   c .before .before .before .before .loop .inv .2
       ∙ all-next _ _ _ _ _ (c .before .before .before .loop-test .taken) _ (c .before .digit-of .ensures .0) _ refl (c .if3 .left),
   c .before .before .before .before .loop .inv .3
@@ -69,12 +71,14 @@ loop-again c = (
 returns-4 : tie.Need-returns-4 Inv-loop μ-loop
 returns-4 c =
     sym (too-high _ _ _ _ (c .before .before .before .before .if1 .left) (c .before .before .before .if2 .left) (c .before .before .loop .inv .2
-    ∙ all-done _ _ _ _ _ (c .before .loop-test .left)) _ (c .before .before .loop .inv .3 ∙ number-done _ _ _ _ _ (c .before .loop-test .left) _) (c .if4 .taken))
+    ∙ all-done _ _ _ _ _ (c .before .loop-test .left)) _ (c .before .before .loop .inv .3
+    ∙ number-done _ _ _ _ _ (c .before .loop-test .left) _) (c .if4 .taken))
 
 returns-5 : tie.Need-returns-5 Inv-loop μ-loop
 returns-5 c =
     sym (spells _ _ _ _ (c .before .before .before .before .if1 .left) (c .before .before .before .if2 .left) (c .before .before .loop .inv .2
-    ∙ all-done _ _ _ _ _ (c .before .loop-test .left)) _ (c .before .before .loop .inv .3 ∙ number-done _ _ _ _ _ (c .before .loop-test .left) _) (c .if4 .left))
+    ∙ all-done _ _ _ _ _ (c .before .loop-test .left)) _ (c .before .before .loop .inv .3
+    ∙ number-done _ _ _ _ _ (c .before .loop-test .left) _) (c .if4 .left))
 
 pub spelled-spec : {M : Type 1} → statement M
 spelled-spec =

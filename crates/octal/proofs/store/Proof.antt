@@ -26,7 +26,10 @@ loop-holds c = (omega arith, omega arith, refl, simp one-back (c .before .before
 
 cast-room : tie.Need-cast-room Inv-loop μ-loop
 cast-room c =
-    record { fits = let p = narrow _ _ (line-right _ _ _ _ (omega arith) (omega arith) (c .before .before .loop .inv .3)) in omega (arith, p, c .parcel-at .ensures) }
+    record {
+      fits = let p = narrow _ _ (line-right _ _ _ _ (omega arith) (omega arith) (c .before .before .loop .inv .3)) in
+          omega (arith, p, c .parcel-at .ensures);
+    }
 
 loop-again : tie.Need-loop-again Inv-loop μ-loop
 loop-again c =

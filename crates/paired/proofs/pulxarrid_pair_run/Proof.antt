@@ -10,13 +10,15 @@ use Rattle.paired.proofs.pulxarrid_pair_run.Tie as tie
 returns : tie.Need-returns
 returns c =
     let pair-run = c .before .before .before .before .pair-run in
-    rw (← pair-run .ensures .0) (refused-left _ (lastNumbers (pair-run .result .last)) (c .before .of-last .ensures) (λ (l : List ℕ). getD l 1 0 ∷ getD l 2 0 ∷ pair-run .result .steps ∷ []) _ _ _ (c .if1 .taken))
+    rw (← pair-run .ensures .0) (refused-left _ (lastNumbers (pair-run .result .last)) (c .before .of-last .ensures)
+    (λ (l : List ℕ). getD l 1 0 ∷ getD l 2 0 ∷ pair-run .result .steps ∷ []) _ _ _ (c .if1 .taken))
 
 returns-2 : tie.Need-returns-2
 returns-2 c =
     let pair-run = c .before .before .before .before .before .pair-run in
     let start = c .before .before .before .before .before .before .before .before .before .before in
-    rw (← pair-run .ensures .0) (made-left _ (lastNumbers (pair-run .result .last)) (c .before .before .of-last .ensures) (λ (l : List ℕ). getD l 1 0 ∷ getD l 2 0 ∷ pair-run .result .steps ∷ []) _ _ (start .args .report .now) (c .before .if1 .left))
+    rw (← pair-run .ensures .0) (made-left _ (lastNumbers (pair-run .result .last)) (c .before .before .of-last .ensures)
+    (λ (l : List ℕ). getD l 1 0 ∷ getD l 2 0 ∷ pair-run .result .steps ∷ []) _ _ (start .args .report .now) (c .before .if1 .left))
 
 pub pulxarrid-pair-run-spec : {M : Type 1} → statement M
 pulxarrid-pair-run-spec =

@@ -7,7 +7,9 @@ use Rattle.scalar.proofs.ones_right.Tie as tie
 
 returns : tie.Need-returns
 unfolding codeOf act
-returns c = λ p mem. puts OnesRightS _ _ _ _ mem p _ (c .before .before .put-s .ensures) (rw (c .before .before .before .before .before .before .pre .1)) (rw (c .before .before .before .ones-right .ensures))
+returns c =
+    λ p mem. puts OnesRightS _ _ _ _ mem p _ (c .before .before .put-s .ensures)
+    (rw (c .before .before .before .before .before .before .pre .1)) (rw (c .before .before .before .ones-right .ensures))
 
 pub ones-right-spec : {M : Type 1} → statement M
 ones-right-spec = tie.close (tie.spec (λ c κs. search needs) (λ c κs. search needs) (λ c. search needs) returns)

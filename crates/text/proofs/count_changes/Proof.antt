@@ -10,7 +10,8 @@ use Rattle.text.proofs.count_changes.Statement.{statement}
 use Rattle.text.proofs.count_changes.Tie as tie
 
 abbrev Inv-loop : tie.InvT-loop
-Inv-loop before after n count₀ address₀ count address = (address ≤ n) × (count ≤ address) × (changes n 0 before after ≡ count + changes (n - address) address before after)
+Inv-loop before after n count₀ address₀ count address =
+    (address ≤ n) × (count ≤ address) × (changes n 0 before after ≡ count + changes (n - address) address before after)
 
 abbrev μ-loop : tie.MeasureT-loop
 μ-loop before after n count₀ address₀ count address = n - address
@@ -19,10 +20,17 @@ loop-holds : tie.Need-loop-holds Inv-loop μ-loop
 loop-holds c = (omega arith, omega arith, simp (sub-zero, zero-add))
 
 loop-again : tie.Need-loop-again Inv-loop μ-loop
-loop-again c = let a = c .before .before .before .before .before .before .before .args in let next = changes-next (now (a .before)) (now (a .after)) (a .n) (c .before .before .before .before .loop .address) (c .before .before .before .loop-test .taken) in (omega arith, omega arith, omega (arith, c .before .before .before .before .loop .inv .2, next, c .differs .ensures .0))
+loop-again c =
+    let a = c .before .before .before .before .before .before .before .args in
+    let next = changes-next (now (a .before)) (now (a .after)) (a .n) (c .before .before .before .before .loop .address)
+    (c .before .before .before .loop-test .taken) in
+    (omega arith, omega arith, omega (arith, c .before .before .before .before .loop .inv .2, next, c .differs .ensures .0))
 
 returns : tie.Need-returns Inv-loop μ-loop
-returns c = let a = c .before .before .before .before .args in let done = changes-done (now (a .before)) (now (a .after)) (a .n) (c .before .loop .address) (c .loop-test .left) in omega (arith, c .before .loop .inv .2, done)
+returns c =
+    let a = c .before .before .before .before .args in
+    let done = changes-done (now (a .before)) (now (a .after)) (a .n) (c .before .loop .address) (c .loop-test .left) in
+    omega (arith, c .before .loop .inv .2, done)
 
 pub count-changes-spec : {M : Type 1} → statement M
 count-changes-spec =

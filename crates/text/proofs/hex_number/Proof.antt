@@ -25,7 +25,12 @@ add-v : tie.Need-add-v Inv-loop μ-loop
 add-v c = omega (arith, digits-most 16 _ _ 15 (lit< tt) (c .before .before .before .loop .inv .1) (omega arith))
 
 loop-again : tie.Need-loop-again Inv-loop μ-loop
-loop-again c = (omega arith, digit-more 16 _ _ _ (c .before .before .before .loop .inv .1) (c .hex-of .ensures .1), c .before .before .before .loop .inv .2 ∙ hex-next _ _ _ _ (c .before .before .loop-test .taken) _ (c .before .byte-at .ensures) _ _ (c .hex-of .ensures .0))
+loop-again c = (
+  omega arith,
+  digit-more 16 _ _ _ (c .before .before .before .loop .inv .1) (c .hex-of .ensures .1),
+  c .before .before .before .loop .inv .2 ∙ hex-next _ _ _ _ (c .before .before .loop-test .taken) _ (c .before .byte-at .ensures) _ _
+      (c .hex-of .ensures .0),
+)
 
 returns : tie.Need-returns Inv-loop μ-loop
 returns c = sym (c .before .loop .inv .2 ∙ hex-done _ _ _ _ (c .loop-test .left) _)

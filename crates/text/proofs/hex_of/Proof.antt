@@ -18,7 +18,10 @@ sub-result-2 c = omega (arith, letter-range _ (sym (c .before .is-letter .ensure
 
 returns-2 : tie.Need-returns-2
 unfolding hexOf
-returns-2 c = (rw (← c .before .before .before .is-decimal .ensures, c .before .before .if1 .left, ← c .before .is-letter .ensures, c .if2 .taken), omega (arith, letter-range _ (sym (c .before .is-letter .ensures) ∙ c .if2 .taken)))
+returns-2 c = (
+  rw (← c .before .before .before .is-decimal .ensures, c .before .before .if1 .left, ← c .before .is-letter .ensures, c .if2 .taken),
+  omega (arith, letter-range _ (sym (c .before .is-letter .ensures) ∙ c .if2 .taken)),
+)
 
 returns-3 : tie.Need-returns-3
 unfolding hexOf

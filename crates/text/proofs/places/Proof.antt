@@ -23,7 +23,16 @@ loop-less : tie.Need-loop-less Inv-loop μ-loop
 loop-less c = div-lt-self (omega (arith, c .before .before .pre)) (c .before .before .pre)
 
 loop-again : tie.Need-loop-again Inv-loop μ-loop
-loop-again c = let l = c .before .loop in let less : l .rest / c .before .before .args .base < l .rest = div-lt-self (omega (arith, c .before .before .pre)) (c .before .before .pre) in let next = places-next (l .inv .2 .0) _ _ (l .inv .2 .1) (c .loop-test .taken) (c .before .before .pre) in let two : 2 ≤ 65 - l .k = two-left (l .rest) _ (omega (arith, c .before .before .pre)) (l .inv .1) in let one : 65 - l .k ≡ suc (65 - (l .k + 1)) = omega arith in (omega arith, one-fewer _ _ _ (c .before .before .pre) (subst (λ (m : ℕ). l .rest < 2 ^ m) one (l .inv .1)), (l .inv .2 .0 - 1, omega arith, omega (arith, next, l .inv .2 .2)))
+loop-again c =
+    let l = c .before .loop in
+    let less : l .rest / c .before .before .args .base < l .rest = div-lt-self (omega (arith, c .before .before .pre))
+    (c .before .before .pre) in let next = places-next (l .inv .2 .0) _ _ (l .inv .2 .1) (c .loop-test .taken) (c .before .before .pre) in
+    let two : 2 ≤ 65 - l .k = two-left (l .rest) _ (omega (arith, c .before .before .pre)) (l .inv .1) in
+    let one : 65 - l .k ≡ suc (65 - (l .k + 1)) = omega arith in (
+      omega arith,
+      one-fewer _ _ _ (c .before .before .pre) (subst (λ (m : ℕ). l .rest < 2 ^ m) one (l .inv .1)),
+      (l .inv .2 .0 - 1, omega arith, omega (arith, next, l .inv .2 .2)),
+    )
 
 returns : tie.Need-returns Inv-loop μ-loop
 returns c = omega (arith, places-last (c .before .loop .inv .2 .0) _ _ (c .loop-test .left), c .before .loop .inv .2 .2)

@@ -15,7 +15,11 @@ put-line-requires c κs = omega (arith, c .before .before .before .before .put-n
 
 returns-2 : tie.Need-returns-2
 unfolding changeText
-returns-2 c = (rw (ne-eqb _ _ (c .before .before .before .before .before .before .before .before .before .if1 .left)) (then (c .before .before .before .before .before .before .before .put-number .ensures .0) (c .before .before .put-line .ensures .0)), omega (arith, c .before .before .before .before .before .before .before .put-number .ensures .1, c .before .before .put-line .ensures .1))
+returns-2 c = (
+  rw (ne-eqb _ _ (c .before .before .before .before .before .before .before .before .before .if1 .left))
+      (then (c .before .before .before .before .before .before .before .put-number .ensures .0) (c .before .before .put-line .ensures .0)),
+  omega (arith, c .before .before .before .before .before .before .before .put-number .ensures .1, c .before .before .put-line .ensures .1),
+)
 
 pub put-change-spec : {M : Type 1} → statement M
 put-change-spec =

@@ -9,8 +9,18 @@ use Rattle.text.proofs.put_changed.Tie as tie
 returns : tie.Need-returns
 unfolding changedLines
 returns c = (
-  rw (← c .before .before .before .before .before .before .before .before .before .before .compared .ensures .0, ← c .before .before .before .before .before .before .before .before .before .count-changes .ensures) (then (c .before .before .before .before .before .before .put-line .ensures .0) (c .before .before .put-changes .ensures)),
-  λ short. omega (arith, words-most (c .before .before .before .before .before .before .before .before .before .before .before .before .before .before .args .before .now) (c .before .before .before .before .before .before .before .before .before .before .before .before .before .before .args .after .now) (λ i. c .before .before .before .before .before .before .before .before .before .before .before .shared-slice-known2 .given i .fits) (c .before .before .before .before .before .before .before .before .before .before .compared .result) 0 (omega arith)),
+  rw (
+    ← c .before .before .before .before .before .before .before .before .before .before .compared .ensures .0,
+    ← c .before .before .before .before .before .before .before .before .before .count-changes .ensures,
+  ) (then
+      (c .before .before .before .before .before .before .put-line .ensures .0) (c .before .before .put-changes .ensures)),
+  λ short. omega (
+    arith,
+    words-most (c .before .before .before .before .before .before .before .before .before .before .before .before
+        .before .before .args .before .now) (c .before .before .before .before .before .before .before .before .before .before .before .before
+        .before .before .args .after .now) (λ i. c .before .before .before .before .before .before .before .before .before .before .before
+        .shared-slice-known2 .given i .fits) (c .before .before .before .before .before .before .before .before .before .before .compared .result) 0 (omega arith),
+  ),
 )
 
 pub put-changed-spec : {M : Type 1} → statement M

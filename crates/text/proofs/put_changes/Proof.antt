@@ -11,7 +11,9 @@ use Rattle.text.proofs.put_changes.Statement.{statement}
 use Rattle.text.proofs.put_changes.Tie as tie
 
 abbrev Inv-loop : tie.InvT-loop
-Inv-loop out₀ at before after n to₀ a₀ out to a = (a ≤ n) × (length out ≡ length out₀) × (to ≤ at + 200 * a) × ((m : List ℕ) (q : ℕ) → Wrote out to (changedWords (n - a) a before after) m q → Wrote out₀ at (changedWords n 0 before after) m q)
+Inv-loop out₀ at before after n to₀ a₀ out to a =
+    (a ≤ n) × (length out ≡ length out₀) × (to ≤ at + 200 * a)
+    × ((m : List ℕ) (q : ℕ) → Wrote out to (changedWords (n - a) a before after) m q → Wrote out₀ at (changedWords n 0 before after) m q)
 
 abbrev μ-loop : tie.MeasureT-loop
 μ-loop out₀ at before after n to₀ a₀ out to a = n - a
@@ -20,7 +22,14 @@ loop-holds : tie.Need-loop-holds Inv-loop μ-loop
 loop-holds c = (omega arith, refl, omega arith, λ m q w. rw sub-zero at w)
 
 loop-again : tie.Need-loop-again Inv-loop μ-loop
-loop-again c = (omega arith, c .before .before .put-change .kept .0 ∙ c .before .before .before .before .before .before .before .loop .inv .1, omega (arith, c .before .before .put-change .ensures .1), λ m q w. c .before .before .before .before .before .before .before .loop .inv .3 m q (wrote-as (words-next _ _ _ _ (c .before .before .before .before .before .before .loop-test .taken)) (then (c .before .before .put-change .ensures .0) w)))
+loop-again c = (
+  omega arith,
+  c .before .before .put-change .kept .0
+      ∙ c .before .before .before .before .before .before .before .loop .inv .1,
+  omega (arith, c .before .before .put-change .ensures .1),
+  λ m q w. c .before .before .before .before .before .before .before .loop .inv .3 m q
+      (wrote-as (words-next _ _ _ _ (c .before .before .before .before .before .before .loop-test .taken)) (then (c .before .before .put-change .ensures .0) w)),
+)
 
 same-length : tie.Need-same-length Inv-loop μ-loop
 same-length c = c .before .loop .inv .1

@@ -12,8 +12,10 @@ returns c =
     let modes = c .before .before .before .modes in
     let put-line3 = c .before .before .before .before .before .before .before .before .put-line3 in
     let put-line2 = c .before .before .before .before .before .before .before .before .before .before .before .before .before .before .put-line2 in
-    let put-line = c .before .before .before .before .before .before .before .before .before .before .before .before .before .before .before .before .before .before .before .before .put-line in (
-      then (then (then (put-line .ensures .0) (put-line2 .ensures .0)) (put-line3 .ensures .0)) (rw (modes .ensures) at (c .before .before .put-line4 .ensures .0)),
+    let put-line = c .before .before .before .before .before .before .before .before .before .before .before .before .before .before .before
+    .before .before .before .before .before .put-line in (
+      then (then (then (put-line .ensures .0) (put-line2 .ensures .0)) (put-line3 .ensures .0))
+          (rw (modes .ensures) at (c .before .before .put-line4 .ensures .0)),
       omega (arith, put-line .ensures .1, put-line2 .ensures .1, put-line3 .ensures .1, c .before .before .put-line4 .ensures .1),
     )
 

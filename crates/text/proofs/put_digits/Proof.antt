@@ -23,7 +23,14 @@ glyph-requires : tie.Need-glyph-requires Inv-loop μ-loop
 glyph-requires c κs = lt-of-lt-of-le (mod-lt _ (c .before .before .before .before .pre .2)) (c .before .before .before .before .pre .3)
 
 loop-again : tie.Need-loop-again Inv-loop μ-loop
-loop-again c = (omega arith, c .before .before .put-byte .kept .0 ∙ c .before .before .before .before .before .before .loop .inv .1, c .before .before .before .before .before .before .loop .inv .2 ∙ digits-next _ _ _ _ _ (c .before .before .before .before .before .loop-test .taken) ∙ simp (← c .before .before .before .glyph .ensures, c .before .before .put-byte .ensures))
+loop-again c = (
+  omega arith,
+  c .before .before .put-byte .kept .0
+      ∙ c .before .before .before .before .before .before .loop .inv .1,
+  c .before .before .before .before .before .before .loop .inv .2
+      ∙ digits-next _ _ _ _ _ (c .before .before .before .before .before .loop-test .taken)
+      ∙ simp (← c .before .before .before .glyph .ensures, c .before .before .put-byte .ensures),
+)
 
 same-length : tie.Need-same-length Inv-loop μ-loop
 same-length c = c .before .loop .inv .1

@@ -5,7 +5,17 @@ use Rattle.text.proofs.put_eight.Statement.{statement}
 use Rattle.text.proofs.put_eight.Tie as tie
 
 returns : tie.Need-returns
-returns c = (then (then (c .before .before .before .before .before .before .before .before .before .before .before .put-text .ensures .0) (c .before .before .before .before .before .before .before .put-list .ensures .0)) (c .before .before .put-text2 .ensures .0), omega (arith, c .before .before .before .before .before .before .before .before .before .before .before .put-text .ensures .1, c .before .before .before .before .before .before .before .put-list .ensures .1, c .before .before .put-text2 .ensures .1))
+returns c = (
+  then (then (c .before .before .before .before .before .before .before .before .before .before .before .put-text .ensures .0)
+      (c .before .before .before .before .before .before .before .put-list .ensures .0)) (c .before .before .put-text2 .ensures
+      .0),
+  omega (
+    arith,
+    c .before .before .before .before .before .before .before .before .before .before .before .put-text .ensures .1,
+    c .before .before .before .before .before .before .before .put-list .ensures .1,
+    c .before .before .put-text2 .ensures .1,
+  ),
+)
 
 pub put-eight-spec : {M : Type 1} → statement M
 put-eight-spec =

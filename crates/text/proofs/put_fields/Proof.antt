@@ -11,7 +11,8 @@ unfolding fieldLines frameOf
 returns c =
     let put-line3 = c .before .before .before .before .before .before .before .before .put-line3 in
     let put-line2 = c .before .before .before .before .before .before .before .before .before .before .before .before .before .before .put-line2 in
-    let put-line = c .before .before .before .before .before .before .before .before .before .before .before .before .before .before .before .before .before .before .before .before .put-line in (
+    let put-line = c .before .before .before .before .before .before .before .before .before .before .before .before .before .before .before
+    .before .before .before .before .before .put-line in (
       then (then (then (put-line .ensures .0) (put-line2 .ensures .0)) (put-line3 .ensures .0)) (c .before .before .put-line4 .ensures .0),
       omega (arith, put-line .ensures .1, put-line2 .ensures .1, put-line3 .ensures .1, c .before .before .put-line4 .ensures .1),
     )

@@ -11,7 +11,9 @@ use Rattle.text.proofs.put_list.Statement.{statement}
 use Rattle.text.proofs.put_list.Tie as tie
 
 abbrev Inv-loop : tie.InvT-loop
-Inv-loop out₀ at ns least to₀ i₀ out to i = (1 ≤ i) × (i ≤ length ns) × (length out ≡ length out₀) × (to ≤ to₀ + 65 * (i - 1)) × ((m : List ℕ) (q : ℕ) → Wrote out to (afterCommas least (drop i ns)) m q → Wrote out₀ to₀ (afterCommas least (drop 1 ns)) m q)
+Inv-loop out₀ at ns least to₀ i₀ out to i =
+    (1 ≤ i) × (i ≤ length ns) × (length out ≡ length out₀) × (to ≤ to₀ + 65 * (i - 1))
+    × ((m : List ℕ) (q : ℕ) → Wrote out to (afterCommas least (drop i ns)) m q → Wrote out₀ to₀ (afterCommas least (drop 1 ns)) m q)
 
 abbrev μ-loop : tie.MeasureT-loop
 μ-loop out₀ at ns least to₀ i₀ out to i = length ns - i
@@ -20,13 +22,35 @@ loop-holds : tie.Need-loop-holds Inv-loop μ-loop
 loop-holds c = (omega arith, omega arith, refl, omega arith, λ m q w. w)
 
 loop-again : tie.Need-loop-again Inv-loop μ-loop
-loop-again c = (omega arith, omega arith, c .before .before .put-number2 .kept .0 ∙ c .before .before .before .before .before .before .before .put-byte .kept .0 ∙ c .before .before .before .before .before .before .before .before .before .before .loop .inv .2, omega (arith, c .before .before .put-number2 .ensures .1), λ m q w. c .before .before .before .before .before .before .before .before .before .before .loop .inv .4 m q (wrote-as (commas-next _ _ _ (c .before .before .before .before .before .before .before .before .before .loop-test .taken)) (then (then (wrote-byte (c .before .before .before .before .before .before .before .put-byte .ensures)) (c .before .before .put-number2 .ensures .0)) w)))
+loop-again c = (
+  omega arith,
+  omega arith,
+  c .before .before .put-number2 .kept .0
+      ∙ c .before .before .before .before .before .before .before .put-byte .kept .0
+      ∙ c .before .before .before .before .before .before .before .before .before .before .loop .inv .2,
+  omega
+      (arith, c .before .before .put-number2 .ensures .1),
+  λ m q w. c .before .before .before .before .before .before .before .before .before .before .loop .inv .4 m q
+      (wrote-as (commas-next _ _ _ (c .before .before .before .before .before .before .before .before .before .loop-test .taken))
+      (then (then (wrote-byte (c .before .before .before .before .before .before .before .put-byte .ensures)) (c .before .before .put-number2 .ensures .0)) w)),
+)
 
 same-length : tie.Need-same-length Inv-loop μ-loop
 same-length c = c .before .loop .inv .2 ∙ c .before .before .before .before .put-number .kept .0
 
 returns : tie.Need-returns Inv-loop μ-loop
-returns c = let e : c .before .loop .i ≡ length (now (c .before .before .before .before .before .before .before .before .before .args .ns)) = omega arith in let some : 0 < length (now (c .before .before .before .before .before .before .before .before .before .args .ns)) = omega arith in (wrote-as (commas-first _ _ some) (then (c .before .before .before .before .put-number .ensures .0) (c .before .loop .inv .4 _ _ (wrote-as (commas-done _ _ _ e) (wrote-none _ _)))), omega (arith, c .before .before .before .before .put-number .ensures .1, c .before .loop .inv .3))
+returns c =
+    let e : c .before .loop .i ≡ length (now (c .before .before .before .before .before .before .before .before .before .args .ns)) = omega
+    arith in let some : 0 < length (now (c .before .before .before .before .before .before .before .before .before .args .ns)) = omega
+    arith in (
+      wrote-as (commas-first _ _ some) (then (c .before .before .before .before .put-number .ensures .0)
+          (c .before .loop .inv .4 _ _ (wrote-as (commas-done _ _ _ e) (wrote-none _ _)))),
+      omega (
+        arith,
+        c .before .before .before .before .put-number .ensures .1,
+        c .before .loop .inv .3,
+      ),
+    )
 
 pub put-list-spec : {M : Type 1} → statement M
 put-list-spec =

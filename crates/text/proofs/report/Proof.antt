@@ -10,7 +10,8 @@ unfolding reportOf
 returns c =
     let put-state = c .before .before .before .before .before .before .put-state in
     let put-line = c .before .before .before .before .before .before .before .before .before .before .before .put-line in
-    let put-stop = c .before .before .before .before .before .before .before .before .before .before .before .before .before .before .before .before .put-stop in (
+    let put-stop = c .before .before .before .before .before .before .before .before .before .before .before .before .before .before .before
+    .before .put-stop in (
       then (then (then (put-stop .ensures .0) (put-line .ensures .0)) (put-state .ensures .0)) (c .before .before .put-changed .ensures .0),
       λ short. omega (arith, c .before .before .put-changed .ensures .1 short),
     )

@@ -20,13 +20,21 @@ loop-holds : tie.Need-loop-holds Inv-loop μ-loop
 loop-holds c = (omega arith, simp add-zero)
 
 returns : tie.Need-returns Inv-loop μ-loop
-returns c = sym (c .before .before .before .before .loop .inv .1 ∙ starts-not _ _ _ _ (c .before .before .before .loop-test .taken) (λ q. c .if1 .taken (c .before .before .byte-at .ensures ∙ q)))
+returns c =
+    sym (c .before .before .before .before .loop .inv .1
+    ∙ starts-not _ _ _ _ (c .before .before .before .loop-test .taken) (λ q. c .if1 .taken (c .before .before .byte-at .ensures ∙ q)))
 
 loop-again : tie.Need-loop-again Inv-loop μ-loop
-loop-again c = (omega arith, c .before .before .before .before .loop .inv .1 ∙ starts-next _ _ _ _ (c .before .before .before .loop-test .taken) (sym (c .before .before .byte-at .ensures) ∙ c .if1 .left))
+loop-again c = (
+  omega arith,
+  c .before .before .before .before .loop .inv .1
+      ∙ starts-next _ _ _ _ (c .before .before .before .loop-test .taken) (sym (c .before .before .byte-at .ensures) ∙ c .if1 .left),
+)
 
 returns-2 : tie.Need-returns-2 Inv-loop μ-loop
-returns-2 c = let e : c .before .loop .i ≡ length (now (c .before .before .before .before .args .name)) = omega arith in sym (c .before .loop .inv .1 ∙ starts-done _ _ _ _ e)
+returns-2 c =
+    let e : c .before .loop .i ≡ length (now (c .before .before .before .before .args .name)) = omega arith in
+    sym (c .before .loop .inv .1 ∙ starts-done _ _ _ _ e)
 
 pub starts-spec : {M : Type 1} → statement M
 starts-spec =

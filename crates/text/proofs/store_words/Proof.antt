@@ -9,7 +9,8 @@ use Rattle.text.proofs.store_words.Statement.{statement}
 use Rattle.text.proofs.store_words.Tie as tie
 
 abbrev Inv-loop : tie.InvT-loop
-Inv-loop text start count mem₀ left₀ at₀ mem left at = (left ≤ count) × (at + 22 * left ≡ start + 22 * count) × (length mem ≡ length mem₀) × (stored count text start mem₀ ≡ stored left text at mem)
+Inv-loop text start count mem₀ left₀ at₀ mem left at =
+    (left ≤ count) × (at + 22 * left ≡ start + 22 * count) × (length mem ≡ length mem₀) × (stored count text start mem₀ ≡ stored left text at mem)
 
 abbrev μ-loop : tie.MeasureT-loop
 μ-loop text start count mem₀ left₀ at₀ mem left at = left
@@ -18,7 +19,19 @@ loop-holds : tie.Need-loop-holds Inv-loop μ-loop
 loop-holds c = (omega arith, refl, refl, refl)
 
 loop-again : tie.Need-loop-again Inv-loop μ-loop
-loop-again c = (omega arith, omega arith, c .before .before .store .kept .0 ∙ c .before .before .before .before .before .before .before .loop .inv .2, c .before .before .before .before .before .before .before .loop .inv .3 ∙ stored-next _ _ _ _ (c .before .before .before .before .before .before .loop-test .taken) ∙ simp (← c .before .before .before .before .before .hex-number .ensures, ← c .before .before .before .before .hex-number2 .ensures, c .before .before .store .ensures))
+loop-again c = (
+  omega arith,
+  omega arith,
+  c .before .before .store .kept .0
+      ∙ c .before .before .before .before .before .before .before .loop .inv .2,
+  c .before .before .before .before .before .before .before .loop .inv .3
+      ∙ stored-next _ _ _ _ (c .before .before .before .before .before .before .loop-test .taken)
+      ∙ simp (
+        ← c .before .before .before .before .before .hex-number .ensures,
+        ← c .before .before .before .before .hex-number2 .ensures,
+        c .before .before .store .ensures,
+      ),
+)
 
 same-length : tie.Need-same-length Inv-loop μ-loop
 same-length c = c .before .loop .inv .2

@@ -9,13 +9,25 @@ use Rattle.turns.proofs.finish.Tie as tie
 
 leave-requires : tie.Need-leave-requires
 leave-requires c κs =
-    let start = c .before .before .before .before .before .before .before .before .before in
-    (start .pre .0, (rw (c .before .before .on3 .ensures) (omega arith), rw (c .in-user-mode .ensures) (flag-small (frameOf (start .args .r .now)) 1 (omega arith))))
+    let start = c .before .before .before .before .before .before .before .before .before in (
+      start .pre .0,
+      (
+        rw (c .before .before .on3 .ensures) (omega arith),
+        rw (c .in-user-mode .ensures)
+            (flag-small (frameOf (start .args .r .now)) 1 (omega arith)),
+      ),
+    )
 
 leave-requires-2 : tie.Need-leave-requires-2
 leave-requires-2 c κs =
-    let start = c .before .before .before .before .before .before .before .before .before in
-    (start .pre .0, (rw (c .before .before .on4 .ensures) (omega arith), rw (c .in-user-mode2 .ensures) (flag-small (frameOf (start .args .r .now)) 2 (omega arith))))
+    let start = c .before .before .before .before .before .before .before .before .before in (
+      start .pre .0,
+      (
+        rw (c .before .before .on4 .ensures) (omega arith),
+        rw (c .in-user-mode2 .ensures)
+            (flag-small (frameOf (start .args .r .now)) 2 (omega arith)),
+      ),
+    )
 
 leave-requires-3 : tie.Need-leave-requires-3
 leave-requires-3 c κs =

@@ -26,7 +26,8 @@ returns c =
     let work = c .before .before .before .before .before .before .before .work in
     let loop-test = c .before .before .before .before .before .before .before .before .before .before .loop-test in
     let loop = c .before .before .before .before .before .before .before .before .before .before .before .loop in
-    ends _ _ _ _ _ _ _ _ _ _ _ _ (loop .inv) (loop-test .taken) (work .ensures) (search needs) (sym (c .before .before .move-p .ensures) ∙ c .enum-told .given .1)
+    ends _ _ _ _ _ _ _ _ _ _ _ _ (loop .inv) (loop-test .taken) (work .ensures) (search needs)
+    (sym (c .before .before .move-p .ensures) ∙ c .enum-told .given .1)
 
 loop-again : tie.Need-loop-again Inv-loop μ-loop
 loop-again c =

@@ -21,7 +21,8 @@ add-t31 : tie.Need-add-t31
 add-t31 c =
     let finish = c .before .before .before .before .before .finish in
     let take-burst = c .before .before .before .before .before .before .before .before .before .before .before .before .before .before .take-burst in
-    let start = c .before .before .before .before .before .before .before .before .before .before .before .before .before .before .before .before .before .before .before .before .before .before .before in
+    let start = c .before .before .before .before .before .before .before .before .before .before .before .before .before .before .before
+    .before .before .before .before .before .before .before .before in
     omega (arith, c .count-of .ensures, counted-small (finish .result), take-burst .ensures .steps, start .pre .1 .1)
 
 returns-2 : tie.Need-returns-2

@@ -22,7 +22,8 @@ unfolding fill
 loop-holds c = (search needs, refl)
 
 loop-again : tie.Need-loop-again Inv-loop μ-loop
-loop-again c = (search needs, rw zero-add at (fill-turn 0 _ (c .before .before .before .loop .n) _ _ _ _ (c .before .before .before .loop .inv .1) refl (c .cut .ensures)))
+loop-again c =
+    (search needs, rw zero-add at (fill-turn 0 _ (c .before .before .before .loop .n) _ _ _ _ (c .before .before .before .loop .inv .1) refl (c .cut .ensures)))
 
 returns : tie.Need-returns Inv-loop μ-loop
 returns c = λ n l.

@@ -9,7 +9,13 @@ read-requires : tie.Need-read-requires
 read-requires c κs =
     let place = c .before .before .before .before .place in
     let start = c .before .before .before .before .before .before .before in (
-      (start .pre .0 .0, block-low (start .args .b) _ (place .ensures), omega (arith, c .before .before .before .jk .ensures), omega (arith, c .before .block .ensures)),
+      (
+        start .pre .0 .0,
+        block-low (start .args .b) _ (place .ensures),
+        omega (arith, c .before .before .before .jk .ensures),
+        omega
+            (arith, c .before .block .ensures),
+      ),
       held _ _ _ _ (start .pre .1),
     )
 

@@ -8,7 +8,13 @@ use Rattle.memory.proofs.blocks.store_block.Tie as tie
 store-requires : tie.Need-store-requires
 store-requires c κs =
     let start = c .before .before .before .before .before .before in (
-      (start .pre .0 .0, block-low (start .args .b) _ (c .before .before .before .place .ensures), omega (arith, c .before .before .jk .ensures), omega (arith, c .before .block .ensures)),
+      (
+        start .pre .0 .0,
+        block-low (start .args .b) _ (c .before .before .before .place .ensures),
+        omega
+            (arith, c .before .before .jk .ensures),
+        omega (arith, c .before .block .ensures),
+      ),
       held _ _ _ _ (start .pre .1),
     )
 

@@ -46,7 +46,8 @@ loop-holds c =
 
 place-requires : tie.Need-place-requires Inv-loop μ-loop
 place-requires c κs =
-    let start = c .before .before .before .before .before .before .before .before .before .before .before .before .before .before .before .before .before in (start .pre .0 .1, start .pre .0 .2, omega (arith, c .before .before .if1 .taken, start .pre .0 .3))
+    let start = c .before .before .before .before .before .before .before .before .before .before .before .before .before .before .before
+    .before .before in (start .pre .0 .1, start .pre .0 .2, omega (arith, c .before .before .if1 .taken, start .pre .0 .3))
 
 loop-again : tie.Need-loop-again Inv-loop μ-loop
 loop-again c =
@@ -54,7 +55,8 @@ loop-again c =
     let get = c .before .before .before .before .get in
     let loop = c .before .before .before .before .before .before .before .loop in
     let a-0 = c .before .before .before .before .before .before .before .before .before .before .before .before .before .before .before .before .a-0 in
-    let start = c .before .before .before .before .before .before .before .before .before .before .before .before .before .before .before .before .before .before .before .before in
+    let start = c .before .before .before .before .before .before .before .before .before .before .before .before .before .before .before
+    .before .before .before .before .before in
     let a = start .args in
     let l = loop in
     let row = rowIn (a .first) (a .words) (a-0 .result) (a .row .by) in

@@ -43,7 +43,8 @@ loop-holds c =
 
 place-requires : tie.Need-place-requires Inv-loop μ-loop
 place-requires c κs =
-    let start = c .before .before .before .before .before .before .before .before .before .before .before .before .before .before .before in (start .pre .0 .1, start .pre .0 .2, omega (arith, c .before .if1 .taken, start .pre .0 .3))
+    let start = c .before .before .before .before .before .before .before .before .before .before .before .before .before .before .before in
+    (start .pre .0 .1, start .pre .0 .2, omega (arith, c .before .if1 .taken, start .pre .0 .3))
 
 put-requires : tie.Need-put-requires Inv-loop μ-loop
 put-requires c κs =
@@ -55,8 +56,10 @@ loop-again : tie.Need-loop-again Inv-loop μ-loop
 loop-again c =
     let put = c .before .before .before .put in
     let loop = c .before .before .before .before .before .before .before .before .before .loop in
-    let a-0 = c .before .before .before .before .before .before .before .before .before .before .before .before .before .before .before .before .before .before .a-0 in
-    let start = c .before .before .before .before .before .before .before .before .before .before .before .before .before .before .before .before .before .before .before .before .before in
+    let a-0 = c .before .before .before .before .before .before .before .before .before .before .before .before .before .before .before
+    .before .before .before .a-0 in
+    let start = c .before .before .before .before .before .before .before .before .before .before .before .before .before .before .before
+    .before .before .before .before .before .before in
     let a = start .args in
     let l = loop in
     let row = rowIn (a .first) (a .words) (a-0 .result) (a .row .by) in
@@ -65,7 +68,8 @@ loop-again c =
       search needs,
       rw (c .wrapping-add-u642 .ensures) (next-address (l .at) (a-0 .result) (l .e) (a .row .by) (l .inv .2)),
       beyond-turn row (l .e) _ _ (l .inv .3) (rw (put .ensures .1, p)),
-      λ q h. stores-turn row (λ i. getD (a .r .now) (a .row .file + (a .row .reg + i) % 64) 0) (l .e) q (l .mem) _ (l .inv .4 q h) (rw (put .ensures .0, p, c .before .before .before .before .before .place .ensures .0)),
+      λ q h. stores-turn row (λ i. getD (a .r .now) (a .row .file + (a .row .reg + i) % 64) 0) (l .e) q (l .mem) _ (l .inv .4 q h)
+          (rw (put .ensures .0, p, c .before .before .before .before .before .place .ensures .0)),
     )
 
 returns : tie.Need-returns Inv-loop μ-loop
@@ -78,7 +82,8 @@ returns c =
     let a = start .args in
     let e : c .before .before .loop .e ≡ a .row .n = omega arith in
     let k = straight-known _ _ _ _ _ _ (start .pre .0 .2) (straight .ensures) in
-    let g = straight-stored (a .first) _ _ _ _ _ _ (start .pre .1 .short) k (a .row .file) (a .r .now) (a .mem .now) _ (rw (word-at .ensures) at (copy .ensures)) in
+    let g = straight-stored (a .first) _ _ _ _ _ _ (start .pre .1 .short) k (a .row .file) (a .r .now) (a .mem .now) _
+    (rw (word-at .ensures) at (copy .ensures)) in
     rw (← a-0 .ensures, ← e) record { became = c .before .before .loop .inv .4 (a .mem .now) g; beyond = c .before .before .loop .inv .3 }
 
 pub store-spec : {M : Type 1} → statement M

@@ -7,7 +7,10 @@ use Rattle.scalar.proofs.shift.left.Tie as tie
 
 returns : tie.Need-returns
 unfolding codeOf act
-returns c = λ p mem. puts LeftS _ _ _ _ mem p _ (c .before .before .put-s .ensures) (rw (c .before .before .before .before .before .before .before .before .pre .1)) (rw (c .before .before .before .shifted-left .ensures, c .before .before .before .before .s-i .ensures))
+returns c =
+    λ p mem. puts LeftS _ _ _ _ mem p _ (c .before .before .put-s .ensures)
+    (rw (c .before .before .before .before .before .before .before .before .pre .1))
+    (rw (c .before .before .before .shifted-left .ensures, c .before .before .before .before .s-i .ensures))
 
 pub left-spec : {M : Type 1} → statement M
 left-spec =

@@ -8,7 +8,10 @@ use Rattle.scalar.proofs.shift.left_0.Tie as tie
 
 returns : tie.Need-returns
 unfolding codeOf act
-returns c = λ p mem. puts LeftS0 _ _ _ _ mem p _ (refl, c .before .before .set-s .ensures) (rw (c .before .before .before .before .before .before .before .before .pre .1)) (rw (c .before .before .before .shifted-left .ensures, c .before .before .before .before .s-i .ensures))
+returns c =
+    λ p mem. puts LeftS0 _ _ _ _ mem p _ (refl, c .before .before .set-s .ensures)
+    (rw (c .before .before .before .before .before .before .before .before .pre .1))
+    (rw (c .before .before .before .shifted-left .ensures, c .before .before .before .before .s-i .ensures))
 
 pub left-0-spec : {M : Type 1} → statement M
 left-0-spec =

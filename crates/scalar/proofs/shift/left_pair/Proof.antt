@@ -7,7 +7,15 @@ use Rattle.scalar.proofs.shift.left_pair.Tie as tie
 
 returns : tie.Need-returns
 unfolding codeOf act
-returns c = λ p mem. puts LeftPairS _ _ _ _ mem p _ (c .before .before .put-s .ensures) (rw (c .before .before .before .before .before .before .before .before .before .before .before .before .pre .1)) (rw (c .before .before .before .before .left-pair .ensures, c .before .before .before .before .before .before .before .before .before .s-i .ensures, c .before .before .before .before .before .before .before .s-j .ensures, c .before .before .before .before .before .a-k .ensures))
+returns c =
+    λ p mem. puts LeftPairS _ _ _ _ mem p _ (c .before .before .put-s .ensures)
+    (rw (c .before .before .before .before .before .before .before .before .before .before .before .before .pre .1))
+    (rw (
+      c .before .before .before .before .left-pair .ensures,
+      c .before .before .before .before .before .before .before .before .before .s-i .ensures,
+      c .before .before .before .before .before .before .before .s-j .ensures,
+      c .before .before .before .before .before .a-k .ensures,
+    ))
 
 pub left-pair-spec : {M : Type 1} → statement M
 left-pair-spec =

@@ -7,7 +7,15 @@ use Rattle.scalar.proofs.shift.right_pair.Tie as tie
 
 returns : tie.Need-returns
 unfolding codeOf act
-returns c = λ p mem. puts RightPairS _ _ _ _ mem p _ (c .before .before .put-s .ensures) (rw (c .before .before .before .before .before .before .before .before .before .before .before .before .pre .1)) (rw (c .before .before .before .before .right-pair .ensures, c .before .before .before .before .before .before .before .before .before .s-j .ensures, c .before .before .before .before .before .before .before .s-i .ensures, c .before .before .before .before .before .a-k .ensures))
+returns c =
+    λ p mem. puts RightPairS _ _ _ _ mem p _ (c .before .before .put-s .ensures)
+    (rw (c .before .before .before .before .before .before .before .before .before .before .before .before .pre .1))
+    (rw (
+      c .before .before .before .before .right-pair .ensures,
+      c .before .before .before .before .before .before .before .before .before .s-j .ensures,
+      c .before .before .before .before .before .before .before .s-i .ensures,
+      c .before .before .before .before .before .a-k .ensures,
+    ))
 
 pub right-pair-spec : {M : Type 1} → statement M
 right-pair-spec =

@@ -10,11 +10,26 @@ use Rattle.scalar.proofs.transmit.from_a.Tie as tie
 
 returns : tie.Need-returns
 unfolding codeOf act
-returns c = λ p mem. puts SFromA _ _ _ _ mem p _ (c .before .before .put-s .ensures) (rw (c .before .before .before .before .before .before .before .before .before .pre .1, ← c .before .before .before .before .before .before .before .j .ensures, c .before .before .before .before .before .before .match .keys1)) (rw (c .before .before .before .a-k .ensures))
+returns c =
+    λ p mem. puts SFromA _ _ _ _ mem p _ (c .before .before .put-s .ensures)
+    (rw (
+      c .before .before .before .before .before .before .before .before .before .pre .1,
+      ← c .before .before .before .before .before .before .before .j .ensures,
+      c .before .before .before .before .before .before .match .keys1,
+    )) (rw (c .before .before .before .a-k .ensures))
 
 returns-2 : tie.Need-returns-2
 unfolding codeOf act
-returns-2 c = λ p mem. puts SFromSignedA _ _ _ _ mem p _ (c .before .before .put-s2 .ensures) (rw (c .before .before .before .before .before .before .before .before .before .before .pre .1, ← c .before .before .before .before .before .before .before .before .j .ensures, c .before .before .before .before .before .before .before .match .keys2)) (rw (c .before .before .before .sign-extended .ensures, c .before .before .before .before .a-k2 .ensures))
+returns-2 c =
+    λ p mem. puts SFromSignedA _ _ _ _ mem p _ (c .before .before .put-s2 .ensures)
+    (rw (
+      c .before .before .before .before .before .before .before .before .before .before .pre .1,
+      ← c .before .before .before .before .before .before .before .before .j .ensures,
+      c .before .before .before .before .before .before .before .match .keys2,
+    )) (rw (
+      c .before .before .before .sign-extended .ensures,
+      c .before .before .before .before .a-k2 .ensures,
+    ))
 
 returns-3 : tie.Need-returns-3
 unfolding codeOf

@@ -7,7 +7,9 @@ use Rattle.scalar.proofs.transmit.from_t.Tie as tie
 
 returns : tie.Need-returns
 unfolding codeOf act
-returns c = λ p mem. puts SFromT _ _ _ _ mem p _ (c .before .before .put-s .ensures) (rw (c .before .before .before .before .before .before .before .pre .1)) (rw (c .before .before .before .t-jk .ensures))
+returns c =
+    λ p mem. puts SFromT _ _ _ _ mem p _ (c .before .before .put-s .ensures)
+    (rw (c .before .before .before .before .before .before .before .pre .1)) (rw (c .before .before .before .t-jk .ensures))
 
 pub from-t-spec : {M : Type 1} → statement M
 from-t-spec = tie.close (tie.spec (λ c κs. search needs) (λ c κs. search needs) (λ c. search needs) returns)

@@ -8,7 +8,10 @@ use Rattle.scalar.proofs.transmit.to_t.Tie as tie
 
 returns : tie.Need-returns
 unfolding codeOf act
-returns c = λ p mem. puts TFromS _ _ _ _ mem p _ (refl, c .before .before .set-t .ensures) (rw (c .before .before .before .before .before .before .before .before .pre .1)) (rw (c .before .before .before .before .before .jk .ensures, c .before .before .before .s-i .ensures))
+returns c =
+    λ p mem. puts TFromS _ _ _ _ mem p _ (refl, c .before .before .set-t .ensures)
+    (rw (c .before .before .before .before .before .before .before .before .pre .1))
+    (rw (c .before .before .before .before .before .jk .ensures, c .before .before .before .s-i .ensures))
 
 pub to-t-spec : {M : Type 1} → statement M
 to-t-spec =

@@ -48,7 +48,8 @@ same-length : tie.Need-same-length Inv-loop μ-loop
 same-length c =
     let if1 = c .before .before .before .before .before .before .before .before .before .before .before .before .if1 in
     let loop = c .before .before .before .before .before .before .before .before .before .before .before .before .before .before .before .before .loop in
-    let start = c .before .before .before .before .before .before .before .before .before .before .before .before .before .before .before .before .before .before .before .before .before .before .before .before .before .before .before in
+    let start = c .before .before .before .before .before .before .before .before .before .before .before .before .before .before .before
+    .before .before .before .before .before .before .before .before .before .before .before .before in
     let here = ⊎-elim (λ t. passed _ _ _ _ _ _ _ _ _ (loop .inv) _ _ _ _ (t .3 .ensures .1) (t .3 .ensures .0) (search needs) (t .6) (t .7))
     (λ t. stayed _ _ _ _ _ _ _ _ _ (loop .inv) _ _ (t .0 .left) (t .1) (t .2)) (if1 .came) in
     search (needs, here .0 .whole, start .pre .0 .0)
@@ -66,8 +67,10 @@ returns c =
 
 add-n : tie.Need-add-n Inv-loop μ-loop
 add-n c =
-    let loop-test = c .before .before .before .before .before .before .before .before .before .before .before .before .before .before .before .before .loop-test in
-    let start = c .before .before .before .before .before .before .before .before .before .before .before .before .before .before .before .before .before .before .before .before .before .before .before .before .before .before .before .before in
+    let loop-test = c .before .before .before .before .before .before .before .before .before .before .before .before .before .before
+    .before .before .loop-test in
+    let start = c .before .before .before .before .before .before .before .before .before .before .before .before .before .before .before
+    .before .before .before .before .before .before .before .before .before .before .before .before .before in
     search (needs, loop-test .taken, start .pre .0 .1)
 
 loop-again : tie.Need-loop-again Inv-loop μ-loop
@@ -75,8 +78,10 @@ loop-again c =
     let move-p = c .before .before .before .move-p in
     let step-at = c .before .before .before .before .before .before .before .before .step-at in
     let if1 = c .before .before .before .before .before .before .before .before .before .before .before .before .before .if1 in
-    let loop-test = c .before .before .before .before .before .before .before .before .before .before .before .before .before .before .before .before .loop-test in
-    let loop = c .before .before .before .before .before .before .before .before .before .before .before .before .before .before .before .before .before .loop in
+    let loop-test = c .before .before .before .before .before .before .before .before .before .before .before .before .before .before
+    .before .before .loop-test in
+    let loop = c .before .before .before .before .before .before .before .before .before .before .before .before .before .before .before
+    .before .before .loop in
     let here = ⊎-elim (λ t. passed _ _ _ _ _ _ _ _ _ (loop .inv) _ _ _ _ (t .3 .ensures .1) (t .3 .ensures .0) (search needs) (t .6) (t .7))
     (λ t. stayed _ _ _ _ _ _ _ _ _ (loop .inv) _ _ (t .0 .left) (t .1) (t .2)) (if1 .came) in
     goes-on _ _ _ _ _ _ _ _ _ _ _ _ here (loop-test .taken) (step-at .ensures .0) (step-at .ensures .1) (search (needs, here .0 .whole)) _

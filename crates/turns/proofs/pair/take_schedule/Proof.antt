@@ -26,7 +26,8 @@ add-t27 : tie.Need-add-t27
 add-t27 c =
     let finish-at = c .before .before .before .before .before .finish-at in
     let take = c .before .before .before .before .before .before .before .before .before .before .before .before .before .before .take in
-    let start = c .before .before .before .before .before .before .before .before .before .before .before .before .before .before .before .before .before .before .before .before in
+    let start = c .before .before .before .before .before .before .before .before .before .before .before .before .before .before .before
+    .before .before .before .before .before in
     omega (arith, c .count-of .ensures, counted-small (finish-at .result), take .ensures .steps, start .pre .0 .1)
 
 returns-2 : tie.Need-returns-2

@@ -34,8 +34,14 @@ add-steps c =
     let if1 = c .before .before .before .before .before .before .before .before .if1 in
     let exchanged = c .before .before .before .before .before .before .before .before .before .exchanged in
     let loop = c .before .before .before .before .before .before .before .before .before .before .before .loop in
-    let start = c .before .before .before .before .before .before .before .before .before .before .before .before .before .before .before .before .before .before .before .before .before in
-    omega (arith, again _ _ _ _ _ _ _ _ _ (loop .inv .fitting) (loop .inv .p) (search needs) (turn2 .ensures) refl (loop .inv .within) _ _ (loop .last) (sym (exchanged .ensures) ∙ if1 .taken) (loop .inv .rest) (loop .inv .long) .0 .within, start .pre .1 .1)
+    let start = c .before .before .before .before .before .before .before .before .before .before .before .before .before .before .before
+    .before .before .before .before .before .before in
+    omega (
+      arith,
+      again _ _ _ _ _ _ _ _ _ (loop .inv .fitting) (loop .inv .p) (search needs) (turn2 .ensures) refl (loop .inv .within) _ _
+          (loop .last) (sym (exchanged .ensures) ∙ if1 .taken) (loop .inv .rest) (loop .inv .long) .0 .within,
+      start .pre .1 .1,
+    )
 
 loop-less : tie.Need-loop-less Inv-loop μ-loop
 loop-less c =
@@ -43,7 +49,8 @@ loop-less c =
     let if1 = c .before .before .before .before .before .before .before .before .if1 in
     let exchanged = c .before .before .before .before .before .before .before .before .before .exchanged in
     let loop = c .before .before .before .before .before .before .before .before .before .before .before .loop in
-    again _ _ _ _ _ _ _ _ _ (loop .inv .fitting) (loop .inv .p) (search needs) (turn2 .ensures) refl (loop .inv .within) _ _ (loop .last) (sym (exchanged .ensures) ∙ if1 .taken) (loop .inv .rest) (loop .inv .long) .1
+    again _ _ _ _ _ _ _ _ _ (loop .inv .fitting) (loop .inv .p) (search needs) (turn2 .ensures) refl (loop .inv .within) _ _ (loop .last)
+    (sym (exchanged .ensures) ∙ if1 .taken) (loop .inv .rest) (loop .inv .long) .1
 
 loop-again : tie.Need-loop-again Inv-loop μ-loop
 loop-again c =
@@ -51,7 +58,8 @@ loop-again c =
     let if1 = c .before .before .before .before .before .before .before .before .if1 in
     let exchanged = c .before .before .before .before .before .before .before .before .before .exchanged in
     let loop = c .before .before .before .before .before .before .before .before .before .before .before .loop in
-    again _ _ _ _ _ _ _ _ _ (loop .inv .fitting) (loop .inv .p) (search needs) (turn2 .ensures) refl (loop .inv .within) _ _ (loop .last) (sym (exchanged .ensures) ∙ if1 .taken) (loop .inv .rest) (loop .inv .long) .0
+    again _ _ _ _ _ _ _ _ _ (loop .inv .fitting) (loop .inv .p) (search needs) (turn2 .ensures) refl (loop .inv .within) _ _ (loop .last)
+    (sym (exchanged .ensures) ∙ if1 .taken) (loop .inv .rest) (loop .inv .long) .0
 
 returns : tie.Need-returns Inv-loop μ-loop
 returns c =
@@ -60,7 +68,9 @@ returns c =
     let u = runs-on _ _ _ _ (start .args .budget) _ 0 _ _ (start .pre .0) (start .pre .1 .0) (search needs) (turn .ensures) (omega arith) (omega arith) .0 in
     let first = rw zero-add at (u .rest) in
     rw (c .ending-of .ensures)
-    (sym (first ∙ c .before .before .loop .inv .rest ∙ over (start .args .budget) (c .before .before .loop .steps) (c .before .before .loop .last) (c .before .before .loop .r) (c .before .before .loop .mem) (⊎-elim (λ w z. absurd (untold (sym (w .2 .left) ∙ w .1 .ensures ∙ z))) (λ w z. omega arith) (c .before .loop-test .came))))
+    (sym (first ∙ c .before .before .loop .inv .rest
+    ∙ over (start .args .budget) (c .before .before .loop .steps) (c .before .before .loop .last) (c .before .before .loop .r)
+    (c .before .before .loop .mem) (⊎-elim (λ w z. absurd (untold (sym (w .2 .left) ∙ w .1 .ensures ∙ z))) (λ w z. omega arith) (c .before .loop-test .came))))
 
 pub take-turns-spec : {M : Type 1} → statement M
 take-turns-spec =
