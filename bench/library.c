@@ -19,7 +19,7 @@
 
 #include "pulxarrid.h"
 
-/* The steps of one call of a pair run. */
+/* The most steps of one call of a pair run. */
 #define PART 50000
 
 typedef uint64_t State[PULXARRID_STATE_WORDS];
@@ -119,9 +119,10 @@ static uint64_t pairs(uint64_t *memory, size_t words, uint64_t turn, uint64_t co
     start(pair, memory, words, 0, 0);
     start(pair + PULXARRID_STATE_WORDS, memory, words, 1, 1);
     while (steps < count) {
-        uint64_t took = pair_run(pair, memory, words, schedule, PART);
+        size_t part = count - steps < PART ? count - steps : PART;
+        uint64_t took = pair_run(pair, memory, words, schedule, part);
         steps += took;
-        if (took < PART)
+        if (took < part)
             break;
     }
     return steps;

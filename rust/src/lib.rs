@@ -316,13 +316,22 @@ pub fn step(state: &mut State, memory: &mut [u64]) -> Result<Answer, Refused> {
     Ok(Answer::new(answer[0], answer[1]).expect("a step answers"))
 }
 
-/// Steps up to and including the first that exchanges or stops, at most
-/// `budget`.
-pub fn turn(state: &mut State, memory: &mut [u64], budget: u64) -> Result<Turned, Refused> {
+/// A turn or a run: steps on one processor, up to a budget.
+type Budgeted =
+    unsafe extern "C" fn(&mut [u64; STATE_WORDS], *mut u64, usize, u64, &mut [u64; 3]) -> u64;
+
+/// What one of the two reports.
+fn within(
+    call: Budgeted,
+    state: &mut State,
+    memory: &mut [u64],
+    budget: u64,
+) -> Result<[u64; 3], Refused> {
     let mut report = [0; 3];
+    let words = &mut state.words;
     let number = unsafe {
-        pulxarrid_turn(
-            &mut state.words,
+        call(
+            words,
             memory.as_mut_ptr(),
             memory.len(),
             budget,
@@ -330,25 +339,20 @@ pub fn turn(state: &mut State, memory: &mut [u64], budget: u64) -> Result<Turned
         )
     };
     Refused::check(number)?;
-    let [kind, value, steps] = report;
+    Ok(report)
+}
+
+/// Steps up to and including the first that exchanges or stops, at most
+/// `budget`.
+pub fn turn(state: &mut State, memory: &mut [u64], budget: u64) -> Result<Turned, Refused> {
+    let [kind, value, steps] = within(pulxarrid_turn, state, memory, budget)?;
     let last = Answer::new(kind, value);
     Ok(Turned { last, steps })
 }
 
 /// Steps until the budget is spent or one stops.
 pub fn run(state: &mut State, memory: &mut [u64], budget: u64) -> Result<Ran, Refused> {
-    let mut report = [0; 3];
-    let number = unsafe {
-        pulxarrid_run(
-            &mut state.words,
-            memory.as_mut_ptr(),
-            memory.len(),
-            budget,
-            &mut report,
-        )
-    };
-    Refused::check(number)?;
-    let [kind, value, steps] = report;
+    let [kind, value, steps] = within(pulxarrid_run, state, memory, budget)?;
     let ending = match kind {
         0 => Ending::Budget,
         2 => Ending::NotHeld(value as u32),

@@ -284,6 +284,18 @@ fn steps_from_any_state() {
     assert!(kinds.iter().all(|n| *n > 20), "{kinds:?}");
 }
 
+/// The six ways in which a turn or a pair run may end.
+fn kind_of(last: Result<Option<Answer>, u8>) -> usize {
+    match last {
+        Ok(None) => 0,
+        Ok(Some(Answer::Stepped)) => 1,
+        Ok(Some(Answer::Exchanged(_))) => 2,
+        Ok(Some(Answer::NotHeld(_))) => 3,
+        Ok(Some(Answer::MonitorFetch(_))) => 4,
+        Err(_) => 5,
+    }
+}
+
 #[test]
 fn turns_from_any_state() {
     let mut draw = Draw(6);
@@ -294,15 +306,7 @@ fn turns_from_any_state() {
             0 => 999_990 + draw.below(20),
             _ => draw.below(8),
         };
-        let kind = match beside.turn(budget) {
-            Ok(None) => 0,
-            Ok(Some(Answer::Stepped)) => 1,
-            Ok(Some(Answer::Exchanged(_))) => 2,
-            Ok(Some(Answer::NotHeld(_))) => 3,
-            Ok(Some(Answer::MonitorFetch(_))) => 4,
-            Err(_) => 5,
-        };
-        kinds[kind] += 1;
+        kinds[kind_of(beside.turn(budget))] += 1;
     }
     assert!(kinds.iter().all(|n| *n > 20), "{kinds:?}");
 }
@@ -429,15 +433,7 @@ fn pair_runs_with_any_schedule() {
         }
         let mut beside = Beside::new(memory, vec![x, y]);
         for _ in 0..2 {
-            let kind = match beside.pair_run(&schedule) {
-                Ok(None) => 0,
-                Ok(Some(Answer::Stepped)) => 1,
-                Ok(Some(Answer::Exchanged(_))) => 2,
-                Ok(Some(Answer::NotHeld(_))) => 3,
-                Ok(Some(Answer::MonitorFetch(_))) => 4,
-                Err(_) => 5,
-            };
-            kinds[kind] += 1;
+            kinds[kind_of(beside.pair_run(&schedule))] += 1;
         }
     }
     assert!(kinds.iter().all(|n| *n > 10), "{kinds:?}");
