@@ -2,8 +2,3 @@ pub mod Below
 pub mod Acts
 pub mod Laws
 pub mod Kept
-pub mod Answers
-pub mod Counted
-pub mod Example
-pub mod Wrong
-pub mod Calls

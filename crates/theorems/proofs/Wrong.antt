@@ -11,8 +11,8 @@ use Rattle.machine.specs.Memory.{placeOf, fetchOf}
 use Rattle.machine.specs.Run.{zeros}
 use Rattle.machine.specs.Refusal.{below, registersFit, frameFits, stateFits, memoryFits, first, stepRefusal}
 use Rattle.machine.specs.Call.{Replied, replied, stepCall}
-use Rattle.laws.proofs.Example.{at, program, program-length, program-first, passes-0, stops-0}
-use Rattle.laws.proofs.Answers.{distinct}
+use Rattle.theorems.proofs.Program.{at, program, program-length, program-first, passes-0, stops-0}
+use Rattle.theorems.proofs.Answers.{distinct}
 
 -- a step is a function of a state and of what is shared
 abbrev pub Step : Type 0

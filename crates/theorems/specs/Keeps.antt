@@ -5,7 +5,7 @@ use mathlib.Core.Logic.{_⊎_}
 use lib.ListN.{length}
 use Rattle.machine.specs.State.{Registers, State}
 use Rattle.machine.specs.Memory.{dataField}
-use Rattle.apart.specs.Statement.{In}
+use Rattle.theorems.specs.Statement.{In}
 
 -- w is a word of package x
 abbrev pub Package : ℕ → ℕ → Type 0

@@ -8,9 +8,9 @@ use Rattle.machine.specs.declared.Answer.the-variants.{Stepped}
 use Rattle.machine.specs.State.{State, Shared}
 use Rattle.machine.specs.Step.{stepOf}
 use Rattle.machine.specs.Run.{runOf}
-use Rattle.laws.proofs.Counted.{stateAfter, sharedAfter, Goes, run-spent}
-use Rattle.apart.specs.Statement.{Own, Agree, AsAlone}
-use Rattle.apart.proofs.Step.{step-frame, step-only, step-same}
+use Rattle.theorems.proofs.Counted.{stateAfter, sharedAfter, Goes, run-spent}
+use Rattle.theorems.specs.Statement.{Own, Agree, AsAlone}
+use Rattle.theorems.proofs.Step.{step-frame, step-only, step-same}
 
 abbrev pub Steps : ℕ → State → Shared → Type 0
 Steps zero x sh = Unit {0}

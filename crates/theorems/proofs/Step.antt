@@ -21,9 +21,9 @@ use Rattle.machine.specs.Work.{Present, NoParcel, Has, withParcel, decoded, pre
 use Rattle.machine.specs.Work.{outside, ranged, perform, noParcel, statusOf, doneWith, workOf}
 use Rattle.machine.specs.Step.{exchange, stepped, finish, finishOf, stepOf}
 use Rattle.laws.proofs.Laws.{work-all}
-use Rattle.laws.proofs.Answers.{distinct}
-use Rattle.apart.specs.Statement.{In, Own, Agree}
-use Rattle.apart.proofs.Agree.{Only, itself, weaken, load-agree, fetch-agree, stores-agree, stores-only}
+use Rattle.theorems.proofs.Answers.{distinct}
+use Rattle.theorems.specs.Statement.{In, Own, Agree}
+use Rattle.theorems.proofs.Agree.{Only, itself, weaken, load-agree, fetch-agree, stores-agree, stores-only}
 
 -- where every fetch gives the same, the same stands at p
 present-same : (fr : Frame) (m m' : List ℕ) → ((p : ℕ) → fetchOf fr m p ≡ fetchOf fr m' p) → (p : ℕ) → presentOf fr m p ≡ presentOf fr m' p

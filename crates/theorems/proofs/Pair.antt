@@ -14,11 +14,11 @@ use Rattle.machine.specs.State.{Frame, State, Shared, sharing}
 use Rattle.machine.specs.Memory.{Field, dataField}
 use Rattle.machine.specs.Step.{stepOf}
 use Rattle.machine.specs.Run.{zeros, PairEnded, pairOf}
-use Rattle.laws.proofs.Counted.{stateAfter, sharedAfter}
-use Rattle.apart.specs.Statement.{In, Own, Neither, Agree, Apart, firsts, seconds, oneBytes, together, Smooth, AsAlone, Demand3}
-use Rattle.apart.proofs.Agree.{Only, itself, flip, chain, weaken, other}
-use Rattle.apart.proofs.Step.{step-frame, step-only}
-use Rattle.apart.proofs.Walk.{Steps, SameWalk, walk-same, as-alone}
+use Rattle.theorems.proofs.Counted.{stateAfter, sharedAfter}
+use Rattle.theorems.specs.Statement.{In, Own, Neither, Agree, Apart, firsts, seconds, oneBytes, together, Smooth, AsAlone, Demand3}
+use Rattle.theorems.proofs.Agree.{Only, itself, flip, chain, weaken, other}
+use Rattle.theorems.proofs.Step.{step-frame, step-only}
+use Rattle.theorems.proofs.Walk.{Steps, SameWalk, walk-same, as-alone}
 
 -- a pair run goes on after a step that stepped
 module _ (bytes : List ℕ) (l : Last) (d : ℕ) (x y : State) (sh : Shared) where

@@ -22,10 +22,10 @@ use Rattle.machine.specs.Step.{stepOf, stops, goesOn, counted}
 use Rattle.machine.specs.Run.{zeros, blankRegisters, blankFrame, startOf, Turned, turned, turnOf, Ended, ended, endingOf, runOf, PairEnded, pairEnded, pairOf}
 use Rattle.machine.specs.Refusal.{below, registersFit, frameFits, stateFits, memoryFits, check, first, startRefusal, stepRefusal, runRefusal, pairRefusal}
 use Rattle.machine.specs.Call.{unless, Started, started, startCall, Replied, replied, stepCall, turnCall, runCall, pairCall}
 use Rattle.laws.proofs.Below.{picked}
-use Rattle.laws.proofs.Example.{at, program, program-length, passes-0, passes-1, stops-2}
-use Rattle.laws.proofs.Answers.{distinct}
-use Rattle.laws.proofs.Counted.{Goes, nextAnswer}
+use Rattle.theorems.proofs.Program.{at, program, program-length, passes-0, passes-1, stops-2}
+use Rattle.theorems.proofs.Answers.{distinct}
+use Rattle.theorems.proofs.Counted.{Goes, nextAnswer}
 
 -- ---- two results that a statement allows are equal
 

@@ -16,8 +16,8 @@ use Rattle.machine.specs.Step.{finish, finishOf, stepOf}
 use Rattle.machine.specs.Run.{zeros, pairEnded, pairOf}
 use Rattle.machine.specs.Refusal.{below, registersFit, frameFits, stateFits, memoryFits, pairRefusal}
 use Rattle.machine.specs.Refusal as Refusal
-use Rattle.apart.specs.Statement.{Apart, together, Smooth, Undisturbed, Demand3}
-use Rattle.apart.proofs.Pair.{undisturbed}
+use Rattle.theorems.specs.Statement.{Apart, together, Smooth, Undisturbed, Demand3}
+use Rattle.theorems.proofs.Pair.{undisturbed}
 
 -- four parcels
 abbrev pub word : ℕ → ℕ → ℕ → ℕ → ℕ

@@ -15,8 +15,8 @@ use Rattle.machine.specs.Word.{pick}
 use Rattle.machine.specs.Parcel.{wordOf}
 use Rattle.machine.specs.State.{Frame}
 use Rattle.machine.specs.Memory.{Field, codeField, sumOf, placeOf, loadAt, storeAt, load, store, stores, parcelAt, fetchOf}
-use Rattle.laws.proofs.Answers.{distinct}
-use Rattle.apart.specs.Statement.{In, Agree}
+use Rattle.theorems.proofs.Answers.{distinct}
+use Rattle.theorems.specs.Statement.{In, Agree}
 
 -- only words of Q differ
 abbrev pub Only : (ℕ → Type 0) → List ℕ → List ℕ → Type 0

@@ -18,9 +18,9 @@ use Rattle.machine.specs.Step.{out, stepOf, stops, counted}
 use Rattle.machine.specs.Run.{turnOf, Ended, ended, endingOf, runOf, pairOf}
 use Rattle.laws.proofs.Laws.{step-stop}
 use Rattle.laws.proofs.Kept.{turn-keeps, run-keeps, pair-keeps}
-use Rattle.laws.proofs.Counted.{nextAnswer, run-over, Ends, Took, run-took}
-use Rattle.apart.specs.Keeps.{Sized}
-use Rattle.apart.proofs.Keeps.{step-length, step-sized}
+use Rattle.theorems.proofs.Counted.{nextAnswer, run-over, Ends, Took, run-took}
+use Rattle.theorems.specs.Keeps.{Sized}
+use Rattle.theorems.proofs.Keeps.{step-length, step-sized}
 
 -- a run of 0 steps
 pub run-none : (n : ℕ) (st : State) (sh : Shared) → runOf 0 n st sh ≡ ended ending.Budget n st sh

@@ -20,9 +20,9 @@ use Rattle.access.proofs.Places.{fill-other, fill-length}
 use Rattle.laws.proofs.Below.{picked}
 use Rattle.laws.proofs.Acts.{Filed, ActOk, act-ok}
 use Rattle.laws.proofs.Laws.{work-all}
-use Rattle.apart.specs.Keeps.{Package, Touches, Sized}
-use Rattle.apart.proofs.Agree.{Only, itself, chain, weaken}
-use Rattle.apart.proofs.Step.{work-only}
+use Rattle.theorems.specs.Keeps.{Package, Touches, Sized}
+use Rattle.theorems.proofs.Agree.{Only, itself, chain, weaken}
+use Rattle.theorems.proofs.Step.{work-only}
 
 -- a list keeps its length
 ring-length : (at : ℕ) (f : ℕ → ℕ) (n : ℕ) (l : List ℕ) → length (ring at f n l) ≡ length l

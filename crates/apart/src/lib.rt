@@ -1,1 +1,0 @@
-// No code: two processors whose fields are apart, and laws of runs, in specs and proofs.
