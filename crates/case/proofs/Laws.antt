@@ -9,7 +9,7 @@ use borrow.Author.Tests.{le-ltb}
 use Rattle.machine.specs.declared.Ending.{Ending}
 use Rattle.machine.specs.State.{State, sharing}
 use Rattle.machine.specs.Exchange.{loaded}
-use Rattle.machine.specs.Refusal.{memoryFits, stateFits, first, startRefusal, runRefusal}
+use Rattle.machine.specs.Refusal.{memoryFits, stateFits, firstDue, startRefusal, runRefusal}
 use Rattle.machine.specs.Run.{zeros, startOf, Ended, ended, runOf}
 use Rattle.machine.specs.Call.{Started, started, startCall, runCall}
 use Rattle.laws.proofs.Kept.{start-fits}
@@ -24,12 +24,12 @@ start-processor mem = refl
 
 module _ (mem : List ℕ) (sized : length mem ≡ 4096) where
   start-called : (st : State) → startCall st mem 0 0 ≡ started 0 (startOf mem 0 0)
-  unfolding startCall startRefusal first memoryFits
+  unfolding startCall startRefusal firstDue memoryFits
   start-called st = rw sized
 
   run-called : (st : State) (steps : ℕ) → stateFits st ≡ true → st .frame .processor ≡ 0 → steps ≤ 1000000
       → runCall st (sharing mem) steps ≡ runOf steps 0 st (sharing mem)
-  unfolding runCall runRefusal first memoryFits
+  unfolding runCall runRefusal firstDue memoryFits
   run-called st steps f p l = rw (sized, le-ltb 1000000 steps l, le-ltb 1 (st .frame .processor) (omega arith), f)
 
   -- a start of any processor and a run of what it made

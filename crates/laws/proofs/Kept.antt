@@ -23,7 +23,7 @@ use Rattle.machine.specs.Work.{Done, perform, statusOf, workOf}
 use Rattle.machine.specs.Exchange.{packageOf, save, packageWord, loaded}
 use Rattle.machine.specs.Step.{exchange, finish, finishOf, stepOf, stops, goesOn, counted}
 use Rattle.machine.specs.Run.{blankRegisters, blankFrame, startOf, Turned, turnOf, Ended, runOf, PairEnded, pairOf}
-use Rattle.machine.specs.Refusal.{below, stateFits, memoryFits, first, stepRefusal}
+use Rattle.machine.specs.Refusal.{below, stateFits, memoryFits, firstDue, stepRefusal}
 use Rattle.access.specs.Executed.{FrameOk, ControlOk}
 use Rattle.access.proofs.Fits.{Fit, fit, fits}
 use Rattle.laws.proofs.Below.{picked, pick-lt, low, below-cons, below-set, below-getD}
@@ -112,7 +112,7 @@ held-lists st h =
 
 -- so no step of it is refused, but for the length of memory
 pub held-allowed : (len : ℕ) (st : State) → memoryFits len ≡ true → Held st → stepRefusal len st ≡ 0
-unfolding stepRefusal first
+unfolding stepRefusal firstDue
 held-allowed len st e h = rw (e, le-ltb 1 (st .frame .processor) (omega (arith, h .processor)), h .fits)
 
 -- ---- what a package loads

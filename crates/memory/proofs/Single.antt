@@ -12,7 +12,7 @@ use Rattle.machine.specs.Parcel.{hOf, iOf, jkmOf, onward}
 use Rattle.machine.specs.State.{Registers, user, ah, apply}
 use Rattle.machine.specs.Memory.{dataField, placeOf, isBeyond, loadAt, storeAt, load, store, stores, anyOutside, fetchOf}
 use Rattle.machine.specs.Act.{Instr, Reads, Writes, LoadA, StoreA, LoadS, StoreS, act}
-use Rattle.machine.specs.Codes.{Code, Two, eight, nth, codeOf}
+use Rattle.machine.specs.Codes.{Code, Two, everyH, nth, codeOf}
 use Rattle.machine.specs.Work.{ranged}
 use Rattle.machine.specs.Layout.{registersOf, frameOf}
 use Rattle.access.specs.Window.{Reaches, placeIn}
@@ -24,16 +24,16 @@ use Rattle.memory.specs.Moves.{loadCode, storeCode, registerOf, toRegist
 use Rattle.memory.proofs.Fields.{reached, place-of, reads, writes}
 
 -- the eight codes of a group are one
-eight-same : (c : Code) (h : ℕ) → h < 8 → nth (eight c) h ≡ c
-eight-same c zero l = refl
-eight-same c (suc zero) l = refl
-eight-same c (suc (suc zero)) l = refl
-eight-same c (suc (suc (suc zero))) l = refl
-eight-same c (suc (suc (suc (suc zero)))) l = refl
-eight-same c (suc (suc (suc (suc (suc zero))))) l = refl
-eight-same c (suc (suc (suc (suc (suc (suc zero)))))) l = refl
-eight-same c (suc (suc (suc (suc (suc (suc (suc zero))))))) l = refl
-eight-same c (suc (suc (suc (suc (suc (suc (suc (suc h)))))))) l = absurd (omega arith)
+every-same : (c : Code) (h : ℕ) → h < 8 → nth (everyH c) h ≡ c
+every-same c zero l = refl
+every-same c (suc zero) l = refl
+every-same c (suc (suc zero)) l = refl
+every-same c (suc (suc (suc zero))) l = refl
+every-same c (suc (suc (suc (suc zero)))) l = refl
+every-same c (suc (suc (suc (suc (suc zero))))) l = refl
+every-same c (suc (suc (suc (suc (suc (suc zero)))))) l = refl
+every-same c (suc (suc (suc (suc (suc (suc (suc zero))))))) l = refl
+every-same c (suc (suc (suc (suc (suc (suc (suc (suc h)))))))) l = absurd (omega arith)
 
 -- the instruction
 abbrev pub loading : File → Instr
@@ -47,13 +47,13 @@ storing S = StoreS
 -- the code
 pub load-code : (file : File) (u : Bool) (x : ℕ) → x / 512 / 8 ≡ loadCode file → codeOf u x ≡ Two (loading file)
 unfolding codeOf
-load-code A u x e = rw e (eight-same (Two LoadA) (hOf x) (omega arith))
-load-code S u x e = rw e (eight-same (Two LoadS) (hOf x) (omega arith))
+load-code A u x e = rw e (every-same (Two LoadA) (hOf x) (omega arith))
+load-code S u x e = rw e (every-same (Two LoadS) (hOf x) (omega arith))
 
 pub store-code : (file : File) (u : Bool) (x : ℕ) → x / 512 / 8 ≡ storeCode file → codeOf u x ≡ Two (storing file)
 unfolding codeOf
-store-code A u x e = rw e (eight-same (Two StoreA) (hOf x) (omega arith))
-store-code S u x e = rw e (eight-same (Two StoreS) (hOf x) (omega arith))
+store-code A u x e = rw e (every-same (Two StoreA) (hOf x) (omega arith))
+store-code S u x e = rw e (every-same (Two StoreS) (hOf x) (omega arith))
 
 -- what it asks
 load-act : (file : File) (r : Registers) (status x m past : ℕ)

@@ -20,7 +20,7 @@ use Rattle.machine.specs.State.{State, Shared, addr}
 use Rattle.machine.specs.Exchange.{packageWord, loadedP, loadedRegisters, loadedFrame, loaded}
 use Rattle.machine.specs.Step.{stepOf, stops, goesOn, counted}
 use Rattle.machine.specs.Run.{zeros, blankRegisters, blankFrame, startOf, Turned, turned, turnOf, Ended, ended, endingOf, runOf, PairEnded, pairEnded, pairOf}
-use Rattle.machine.specs.Refusal.{below, registersFit, frameFits, stateFits, memoryFits, check, first, startRefusal, stepRefusal, runRefusal, pairRefusal}
+use Rattle.machine.specs.Refusal.{below, registersFit, frameFits, stateFits, memoryFits, check, firstDue, startRefusal, stepRefusal, runRefusal, pairRefusal}
 use Rattle.machine.specs.Call.{unless, Started, started, startCall, Replied, replied, stepCall, turnCall, runCall, pairCall}
 use Rattle.laws.proofs.Below.{picked}
 use Rattle.theorems.proofs.Program.{at, program, program-length, passes-0, passes-1, stops-2}
@@ -163,7 +163,7 @@ pair-refused-only x y sh schedule =
 -- ---- a budget of 0 and an empty schedule do nothing, and are no cause of refusal
 
 pub none-allowed : (len : ℕ) (st : State) → runRefusal len st 0 ≡ stepRefusal len st
-unfolding runRefusal stepRefusal first
+unfolding runRefusal stepRefusal firstDue
 none-allowed len st = refl
 
 pub turn-none : (st : State) (sh : Shared) → runRefusal (length (sh .mem)) st 0 ≡ 0 → turnCall st sh 0 ≡ turned last.Nothing 0 st sh
@@ -175,12 +175,12 @@ unfolding runCall runOf
 run-none st sh e = rw e
 
 pub empty-allowed : (len : ℕ) (x y : State) → pairRefusal len x y []
-    ≡ first
+    ≡ firstDue
     (check 1 (not (memoryFits len))
     ∷ check 4 (not (eqb (x .frame .processor) 0 && eqb (y .frame .processor) 1))
     ∷ check 7 (not (stateFits x && stateFits y))
     ∷ [])
-unfolding pairRefusal first below
+unfolding pairRefusal firstDue below
 empty-allowed len x y = refl
 
 pub pair-none : (x y : State) (sh : Shared) → pairRefusal (length (sh .mem)) x y [] ≡ 0 → pairCall x y sh [] ≡ pairEnded last.Nothing 0 x y sh
@@ -255,7 +255,7 @@ PairMeets pair = PairAlways (λ x y sh schedule. pair x y sh schedule ≡ pairCa
 -- ---- wrong runs
 
 run-allowed : runRefusal (length (program .mem)) (at 1 0 0) 3 ≡ 0
-unfolding at runRefusal first memoryFits stateFits registersFit frameFits below zeros
+unfolding at runRefusal firstDue memoryFits stateFits registersFit frameFits below zeros
 run-allowed = rw program-length
 
 -- three steps at most: two are counted, and the third stops
@@ -307,11 +307,11 @@ module _ (run : Run) (meets : RunMeets run) where
 -- ---- wrong pair runs
 
 one-allowed : pairRefusal (length (program .mem)) (at 1 0 0) (at 1 1 0) (0 ∷ []) ≡ 0
-unfolding at pairRefusal first memoryFits stateFits registersFit frameFits below zeros
+unfolding at pairRefusal firstDue memoryFits stateFits registersFit frameFits below zeros
 one-allowed = rw program-length
 
 two-allowed : pairRefusal (length (program .mem)) (at 1 0 0) (at 1 1 0) (0 ∷ 0 ∷ []) ≡ 0
-unfolding at pairRefusal first memoryFits stateFits registersFit frameFits below zeros
+unfolding at pairRefusal firstDue memoryFits stateFits registersFit frameFits below zeros
 two-allowed = rw program-length
 
 one : pairCall (at 1 0 0) (at 1 1 0) program (0 ∷ []) ≡ pairEnded (last.Was Stepped) 1 (at 1 0 1) (at 1 1 0) program
@@ -349,7 +349,7 @@ module _ (pair : PairRun) (meets : PairMeets pair) where
 -- a start that looks at the package's number before memory's length
 pub package-first : (start : Start) → ((st : State) (mem : List ℕ) (x n : ℕ) → 255 < x → start st mem x n .refused ≡ 2)
     → ((st : State) (mem : List ℕ) (x n : ℕ) → start st mem x n ≡ startCall st mem x n) → ⊥
-unfolding startCall startRefusal first memoryFits
+unfolding startCall startRefusal firstDue memoryFits
 package-first start gives meets =
     let a : _≡_ {A = ℕ} 1 2 = sym (ap (λ (o : Started). o .refused) (meets (at 1 0 0) [] 256 0)) ∙ gives (at 1 0 0) [] 256 0 (omega arith) in
     omega arith
@@ -357,7 +357,7 @@ package-first start gives meets =
 -- a run that looks at the processor's number before the budget
 pub processor-first : (run : Run) → ((st : State) (sh : Shared) (budget : ℕ) → 1 < st .frame .processor → run st sh budget .ending ≡ ending.Refused 4)
     → ((st : State) (sh : Shared) (budget : ℕ) → run st sh budget ≡ runCall st sh budget) → ⊥
-unfolding at runRefusal first memoryFits
+unfolding at runRefusal firstDue memoryFits
 processor-first run four meets =
     let number : runRefusal (length (program .mem)) (at 1 2 0) 1000001 ≡ 3 = rw program-length in
     let a = four (at 1 2 0) program 1000001 (omega arith) in
@@ -368,7 +368,7 @@ processor-first run four meets =
 pub byte-first : (pair : PairRun)
     → ((x y : State) (sh : Shared) (schedule : List ℕ) → below 2 schedule ≡ false → pair x y sh schedule .last ≡ last.Refused 6)
     → ((x y : State) (sh : Shared) (schedule : List ℕ) → pair x y sh schedule ≡ pairCall x y sh schedule) → ⊥
-unfolding at pairRefusal first memoryFits below
+unfolding at pairRefusal firstDue memoryFits below
 byte-first pair six meets =
     let number : pairRefusal (length (program .mem)) (at 1 0 0) (at 1 0 0) (2 ∷ []) ≡ 4 = rw program-length in
     let a = six (at 1 0 0) (at 1 0 0) program (2 ∷ []) refl in

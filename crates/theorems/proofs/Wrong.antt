@@ -9,7 +9,7 @@ use Rattle.machine.specs.declared.Reply.the-variants.{Answered}
 use Rattle.machine.specs.State.{State, Shared, addr}
 use Rattle.machine.specs.Memory.{placeOf, fetchOf}
 use Rattle.machine.specs.Run.{zeros}
-use Rattle.machine.specs.Refusal.{below, registersFit, frameFits, stateFits, memoryFits, first, stepRefusal}
+use Rattle.machine.specs.Refusal.{below, registersFit, frameFits, stateFits, memoryFits, firstDue, stepRefusal}
 use Rattle.machine.specs.Call.{Replied, replied, stepCall}
 use Rattle.theorems.proofs.Program.{at, program, program-length, program-first, passes-0, stops-0}
 use Rattle.theorems.proofs.Answers.{distinct}
@@ -28,11 +28,11 @@ Meets step = Always (λ st sh. step st sh ≡ stepCall st sh)
 
 -- neither an empty field nor one of 32 words is refused
 allowed-0 : stepRefusal (length (program .mem)) (at 0 0 0) ≡ 0
-unfolding at stepRefusal first memoryFits stateFits registersFit frameFits below zeros
+unfolding at stepRefusal firstDue memoryFits stateFits registersFit frameFits below zeros
 allowed-0 = rw program-length
 
 allowed-1 : stepRefusal (length (program .mem)) (at 1 0 0) ≡ 0
-unfolding at stepRefusal first memoryFits stateFits registersFit frameFits below zeros
+unfolding at stepRefusal firstDue memoryFits stateFits registersFit frameFits below zeros
 allowed-1 = rw program-length
 
 -- the pass cannot be fetched where the field is empty

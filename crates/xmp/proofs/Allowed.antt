@@ -18,7 +18,7 @@ use Rattle.machine.specs.State.{State, Shared, sharing}
 use Rattle.machine.specs.Exchange.{loaded}
 use Rattle.machine.specs.Step.{Out, stepOf, goesOn, counted}
 use Rattle.machine.specs.Run.{zeros, blankRegisters, blankFrame, startOf, Turned, turned, turnOf}
-use Rattle.machine.specs.Refusal.{Check, check, first, memoryFits, stateFits, below, startRefusal, stepRefusal, runRefusal, pairRefusal}
+use Rattle.machine.specs.Refusal.{Check, check, firstDue, memoryFits, stateFits, below, startRefusal, stepRefusal, runRefusal, pairRefusal}
 use Rattle.machine.specs.Call.{Replied, replied}
 use Rattle.machine.specs.Layout.{part, registersOf, frameOf, stateOf, firstOf, secondOf}
 use Rattle.access.proofs.Places.{part-at}
@@ -31,8 +31,8 @@ pub told : {A B : Type 0} (f : A → B) (a b : A) → a ≡ b → (a ≡ b) × (
 told f a b e = (e, ap f e)
 
 -- none of the tests of a call that is not refused holds
-passed : (n : ℕ) (b : Bool) (l : List Check) → (n ≡ 0 → ⊥) → first (check n b ∷ l) ≡ 0 → (b ≡ false) × (first l ≡ 0)
-unfolding first
+passed : (n : ℕ) (b : Bool) (l : List Check) → (n ≡ 0 → ⊥) → firstDue (check n b ∷ l) ≡ 0 → (b ≡ false) × (firstDue l ≡ 0)
+unfolding firstDue
 passed n true l h e = absurd (h e)
 passed n false l h e = (refl, e)
 

@@ -1,6 +1,6 @@
 use native.Mathlib.Omega.{arith}
 use borrow.Author.Tests.{lt-ltb, le-ltb}
-use Rattle.machine.specs.Refusal.{pairRefusal, first}
+use Rattle.machine.specs.Refusal.{pairRefusal, firstDue}
 use Rattle.machine.specs.Layout.{part, frameOf}
 use Rattle.refusal.proofs.Laws.{list-test}
 use borrow.Author.Needs.{needs}
@@ -8,25 +8,25 @@ use Rattle.refusal.proofs.of_pair.Statement.{statement}
 use Rattle.refusal.proofs.of_pair.Tie as tie
 
 returns : tie.Need-returns
-unfolding pairRefusal first
+unfolding pairRefusal firstDue
 returns c = rw (← c .before .memory-fits .ensures, c .if1 .taken)
 
 returns-2 : tie.Need-returns-2
-unfolding pairRefusal first frameOf part
+unfolding pairRefusal firstDue frameOf part
 returns-2 c =
     let if1 = c .before .before .before .if1 in
     let memory-fits = c .before .before .before .before .memory-fits in
     rw (← memory-fits .ensures, if1 .left, c .if2 .taken)
 
 returns-3 : tie.Need-returns-3
-unfolding pairRefusal first frameOf part
+unfolding pairRefusal firstDue frameOf part
 returns-3 c =
     let if1 = c .before .before .before .before .if1 in
     let memory-fits = c .before .before .before .before .before .memory-fits in
     rw (← memory-fits .ensures, if1 .left, c .before .if2 .left, lt-ltb _ _ (c .if3 .taken))
 
 returns-4 : tie.Need-returns-4
-unfolding pairRefusal first frameOf part
+unfolding pairRefusal firstDue frameOf part
 returns-4 c =
     let if2 = c .before .before .before .if2 in
     let if1 = c .before .before .before .before .before .before .if1 in
@@ -41,7 +41,7 @@ returns-4 c =
     )
 
 returns-5 : tie.Need-returns-5
-unfolding pairRefusal first frameOf part
+unfolding pairRefusal firstDue frameOf part
 returns-5 c =
     let joined-bytes = c .before .before .before .before .joined-bytes in
     let if3 = c .before .before .before .before .before .if3 in
@@ -61,7 +61,7 @@ returns-5 c =
     )
 
 returns-6 : tie.Need-returns-6
-unfolding pairRefusal first frameOf part
+unfolding pairRefusal firstDue frameOf part
 returns-6 c =
     let joined-bytes = c .before .before .before .before .joined-bytes in
     let if3 = c .before .before .before .before .before .if3 in
