@@ -307,7 +307,7 @@ pub fn put_s(r: &mut [u64], x: u64, y: u64) -> Work
 
 // The parcel address n parcels on.
 pub fn on(p: ParcelAddr, n: u64) -> ParcelAddr
-    ensures { λ q. ⌜ q ≡ addr (onward (p .0) n) ⌝ }
+    ensures { λ to. ⌜ to ≡ addr (onward (p .0) n) ⌝ }
 {
     ParcelAddr(std::num::wrapping_add_u64(p.0, n) % 16777216)
 }

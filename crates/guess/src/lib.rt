@@ -500,17 +500,17 @@ fn guess_with(text: &[u8], at: usize, plans: &[u16; 864], row: usize) -> u64
     requires { ⌜ (at + 32 ≤ length (now text)) × (row < 108) × (now plans ≡ planTable) ⌝ }
     ensures { λ r. ⌜ r ≡ packed (guessWith (bytesOf (drop at (now (text .entry)))) (planOf row)) ⌝ }
 {
-    let q = row * 8;
-    let h = digit(text, at, plans[q + 1] as usize);
-    let i = digit(text, at, plans[q + 2] as usize);
-    let j = digit(text, at, plans[q + 3] as usize);
-    let k = digit(text, at, plans[q + 4] as usize);
-    let x = plans[q] as u64 + h * 512 + i * 64 + j * 8 + k;
-    let p = plans[q + 5] as usize;
-    if plans[q + 6] == 0 {
+    let plan = row * 8;
+    let h = digit(text, at, plans[plan + 1] as usize);
+    let i = digit(text, at, plans[plan + 2] as usize);
+    let j = digit(text, at, plans[plan + 3] as usize);
+    let k = digit(text, at, plans[plan + 4] as usize);
+    let x = plans[plan] as u64 + h * 512 + i * 64 + j * 8 + k;
+    let p = plans[plan + 5] as usize;
+    if plans[plan + 6] == 0 {
         return one(x, p + 1);
     }
-    with_number(text, at, plans[q + 6], x, number(text, at, p))
+    with_number(text, at, plans[plan + 6], x, number(text, at, p))
 }
 
 // The guess of the line at a place of a text.

@@ -711,26 +711,26 @@ fn put_instruction(line: &mut [u8], start: usize, forms: &[u8; 1284], ins: Instr
     match ins {
         Instruction::Bare(row) => put_signs(line, start, forms, row * 12).at,
         Instruction::OfOne(row, a) => {
-            let p = put_signs(line, start, forms, row * 12);
-            put_part(line, forms, p, a).at
+            let head = put_signs(line, start, forms, row * 12);
+            put_part(line, forms, head, a).at
         }
         Instruction::OfTwo(row, a, b) => {
-            let p = put_signs(line, start, forms, row * 12);
-            let q = put_part(line, forms, p, a);
-            put_part(line, forms, q, b).at
+            let head = put_signs(line, start, forms, row * 12);
+            let after_a = put_part(line, forms, head, a);
+            put_part(line, forms, after_a, b).at
         }
         Instruction::OfThree(row, a, b, c) => {
-            let p = put_signs(line, start, forms, row * 12);
-            let q = put_part(line, forms, p, a);
-            let r = put_part(line, forms, q, b);
-            put_part(line, forms, r, c).at
+            let head = put_signs(line, start, forms, row * 12);
+            let after_a = put_part(line, forms, head, a);
+            let after_b = put_part(line, forms, after_a, b);
+            put_part(line, forms, after_b, c).at
         }
         Instruction::OfFour(row, a, b, c, d) => {
-            let p = put_signs(line, start, forms, row * 12);
-            let q = put_part(line, forms, p, a);
-            let r = put_part(line, forms, q, b);
-            let s = put_part(line, forms, r, c);
-            put_part(line, forms, s, d).at
+            let head = put_signs(line, start, forms, row * 12);
+            let after_a = put_part(line, forms, head, a);
+            let after_b = put_part(line, forms, after_a, b);
+            let after_c = put_part(line, forms, after_b, c);
+            put_part(line, forms, after_c, d).at
         }
     }
 }

@@ -437,7 +437,7 @@ fn modes(r: &[u64]) -> u64
 // P, XA, VL and the modes.
 fn put_control(out: &mut [u8], at: usize, r: &[u64]) -> usize
     requires { ⌜ (at ≤ 10000) × (length (now r) ≡ 672) ⌝ }
-    ensures { λ q. ⌜ Wrote (now (out .entry)) at (controlLines (stateOf (now (r .entry)))) (now (out .exit)) q × (q ≤ at + 1000) ⌝ }
+    ensures { λ n. ⌜ Wrote (now (out .entry)) at (controlLines (stateOf (now (r .entry)))) (now (out .exit)) n × (n ≤ at + 1000) ⌝ }
 {
     let second = put_line(out, at, b"p=", r[access::P], 16, 6);
     let third = put_line(out, second, b"xa=", r[access::XA], 16, 2);
@@ -448,7 +448,7 @@ fn put_control(out: &mut [u8], at: usize, r: &[u64]) -> usize
 // The two fields.
 fn put_fields(out: &mut [u8], at: usize, r: &[u64]) -> usize
     requires { ⌜ (at ≤ 10000) × (length (now r) ≡ 672) ⌝ }
-    ensures { λ q. ⌜ Wrote (now (out .entry)) at (fieldLines (frameOf (now (r .entry)))) (now (out .exit)) q × (q ≤ at + 1000) ⌝ }
+    ensures { λ n. ⌜ Wrote (now (out .entry)) at (fieldLines (frameOf (now (r .entry)))) (now (out .exit)) n × (n ≤ at + 1000) ⌝ }
 {
     let second = put_line(out, at, b"iba=", r[access::IBA], 16, 5);
     let third = put_line(out, second, b"ila=", r[access::ILA], 16, 5);
@@ -459,7 +459,7 @@ fn put_fields(out: &mut [u8], at: usize, r: &[u64]) -> usize
 // The program state and the cluster.
 fn put_program(out: &mut [u8], at: usize, r: &[u64]) -> usize
     requires { ⌜ (at ≤ 10000) × (length (now r) ≡ 672) ⌝ }
-    ensures { λ q. ⌜ Wrote (now (out .entry)) at (programLines (frameOf (now (r .entry)))) (now (out .exit)) q × (q ≤ at + 1000) ⌝ }
+    ensures { λ n. ⌜ Wrote (now (out .entry)) at (programLines (frameOf (now (r .entry)))) (now (out .exit)) n × (n ≤ at + 1000) ⌝ }
 {
     let second = put_line(out, at, b"ps=", r[access::PS], 16, 1);
     put_line(out, second, b"cln=", r[access::CLN], 16, 1)
@@ -468,7 +468,7 @@ fn put_program(out: &mut [u8], at: usize, r: &[u64]) -> usize
 // The A and S registers.
 fn put_registers(out: &mut [u8], at: usize, r: &[u64]) -> usize
     requires { ⌜ (at ≤ 10000) × (length (now r) ≡ 672) ⌝ }
-    ensures { λ q. ⌜ Wrote (now (out .entry)) at (registerLines (registersOf (now (r .entry)))) (now (out .exit)) q × (q ≤ at + 2000) ⌝ }
+    ensures { λ n. ⌜ Wrote (now (out .entry)) at (registerLines (registersOf (now (r .entry)))) (now (out .exit)) n × (n ≤ at + 2000) ⌝ }
 {
     let second = put_eight(out, at, b"a=", &r[access::A..access::S], 6);
     put_eight(out, second, b"s=", &r[access::S..access::B], 1)
@@ -477,7 +477,7 @@ fn put_registers(out: &mut [u8], at: usize, r: &[u64]) -> usize
 // The processor.
 fn put_state(out: &mut [u8], at: usize, r: &[u64]) -> usize
     requires { ⌜ (at ≤ 1000) × (length (now r) ≡ 672) ⌝ }
-    ensures { λ q. ⌜ Wrote (now (out .entry)) at (stateLines (stateOf (now (r .entry)))) (now (out .exit)) q × (q ≤ at + 5000) ⌝ }
+    ensures { λ n. ⌜ Wrote (now (out .entry)) at (stateLines (stateOf (now (r .entry)))) (now (out .exit)) n × (n ≤ at + 5000) ⌝ }
 {
     let second = put_control(out, at, r);
     let third = put_fields(out, second, r);

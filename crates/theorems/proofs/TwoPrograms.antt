@@ -50,7 +50,7 @@ schedule = 0 ∷ 1 ∷ 1 ∷ 0 ∷ 0 ∷ 1 ∷ 0 ∷ 1 ∷ []
 
 -- a pair run that is not refused
 pub taken : pairRefusal (length memory) first second schedule ≡ 0
-unfolding memory zeros pairRefusal Refusal.first memoryFits stateFits registersFit frameFits below
+unfolding memory zeros pairRefusal Refusal.firstDue memoryFits stateFits registersFit frameFits below
 taken = refl
 
 apart : Apart (first .frame) (second .frame) (length memory)

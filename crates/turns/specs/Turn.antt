@@ -35,7 +35,7 @@ stateAt p r = record { p = p; registers = registersOf r; frame = frameOf r }
 abbrev pub movedTo : ℕ → Work → Moved
 movedTo p work.PastOne = At (addr (onward p 1))
 movedTo p work.PastTwo = At (addr (onward p 2))
-movedTo p (work.To q) = At q
+movedTo p (work.To target) = At target
 movedTo p work.NormalExit = Ends
 movedTo p work.ErrorExit = Ends
 movedTo p (work.OperandRange n) = Ends

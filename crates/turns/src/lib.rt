@@ -42,7 +42,7 @@ fn move_p(p: ParcelAddr, w: Work) -> Moved
     match w {
         Work::PastOne => Moved::At(access::on(p, 1)),
         Work::PastTwo => Moved::At(access::on(p, 2)),
-        Work::To(q) => Moved::At(q),
+        Work::To(target) => Moved::At(target),
         Work::NormalExit => Moved::Ends,
         Work::ErrorExit => Moved::Ends,
         Work::OperandRange(_) => Moved::Ends,

@@ -131,7 +131,7 @@ fn take(pair: &mut [u64], mem: &mut [u64], schedule: &[u8]) -> PairBurst
         let p = next.p;
         let byte = next.byte;
         let w = step_at(pair, mem, at, f, p);
-        let Moved::At(q) = crate::move_p(p, w) else {
+        let Moved::At(moved) = crate::move_p(p, w) else {
             return PairBurst {
                 at,
                 p,
@@ -139,7 +139,12 @@ fn take(pair: &mut [u64], mem: &mut [u64], schedule: &[u8]) -> PairBurst
                 work: w,
             };
         };
-        next = Next { at, p: q, f, byte };
+        next = Next {
+            at,
+            p: moved,
+            f,
+            byte,
+        };
         n += 1;
     }
     let p = next.p;

@@ -85,7 +85,7 @@ loop-again c =
     let here = ⊎-elim (λ t. passed _ _ _ _ _ _ _ _ _ (loop .inv) _ _ _ _ (t .3 .ensures .1) (t .3 .ensures .0) (search needs) (t .6) (t .7))
     (λ t. stayed _ _ _ _ _ _ _ _ _ (loop .inv) _ _ (t .0 .left) (t .1) (t .2)) (if1 .came) in
     goes-on _ _ _ _ _ _ _ _ _ _ _ _ here (loop-test .taken) (step-at .ensures .0) (step-at .ensures .1) (search (needs, here .0 .whole)) _
-    (sym (move-p .ensures) ∙ c .before .q .given .1)
+    (sym (move-p .ensures) ∙ c .before .moved .given .1)
 
 returns-2 : tie.Need-returns-2 Inv-loop μ-loop
 returns-2 c = spent _ _ _ _ _ _ _ _ _ (c .before .before .loop .inv) (c .before .loop-test .left)
