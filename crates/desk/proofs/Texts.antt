@@ -22,7 +22,7 @@ use Rattle.octal.specs.declared.Reading.the-variants as read
 use Rattle.octal.specs.Words.{wordsFor, wordsText}
 use Rattle.octal.specs.Refusals.{refusedText, refusedLine}
 use Rattle.octal.proofs.Line.{parcels-length}
-use Rattle.desk.specs.Desk.{Given, Some, Refusal, calRead, calGiven, octalRead, octalGiven, answered, sheetWords, listedIn, Gives}
+use Rattle.desk.specs.Desk.{Given, Some, Refusal, calRead, calGiven, octalRead, octalGiven, roomGiven, answered, sheetWords, listedIn, Gives}
 use Rattle.desk.specs.declared.Input.{Input}
 use Rattle.desk.specs.declared.Input.the-variants.{Holds, Refused}
 use Rattle.desk.proofs.Most.{read-most}
@@ -42,6 +42,31 @@ octal-most text ps e = go (eqb (firstBad text) 0) e
         let n = sym (ap length same) ∙ parcels-length text (length text / 7) 0 in
         omega (arith, n)
     go false f = let z : _≡_ {A = ℕ} 0 1 = cc in absurd (omega arith)
+
+-- what a text leaves in the room
+pub refused-room : (room : List ℕ) (g : Given) (s : List ℕ) → g ≡ Refusal s → room ≡ roomGiven g room
+refused-room room g s e = sym (ap (λ (h : Given). roomGiven h room) e)
+
+module _ (text room : List ℕ) where
+  left-by : (ps s : List ℕ) (t : Bool) → pick t (sets room 0 ps) room ≡ roomGiven (pick t (Some ps) (Refusal s)) room
+  left-by ps s true = refl
+  left-by ps s false = refl
+
+  pub cal-room : length text ≤ 1048576 → roomAssembled text room ≡ roomGiven (calGiven (length room) text) room
+  unfolding roomAssembled calGiven
+  cal-room short = simp (le-ltb 1048576 (length text) short) (go (readOf text))
+    where
+      go : (r : cal.Reading) → roomAfter room r ≡ roomGiven (calRead (length room) r) room
+      go (cal.All ps) = left-by ps (refusedText 18) (leb (length ps) (length room))
+      go (cal.Wrong k) = refl
+
+  pub octal-room : length text ≤ 1048576 → roomTo room (octalOf text) ≡ roomGiven (octalGiven (length room) text) room
+  unfolding octalGiven
+  octal-room short = simp (le-ltb 1048576 (length text) short) (go (octalOf text))
+    where
+      go : (r : octal.Octal) → roomTo room r ≡ roomGiven (octalRead (length room) r) room
+      go (octal.All ps) = left-by ps (refusedText 18) (leb (length ps) (length room))
+      go (octal.Wrong k) = refl
 
 -- a text that is not too long
 module _ (text room : List ℕ) (short : length text ≤ 1048576) where

@@ -4,6 +4,7 @@ use mathlib.Core.Path.{_≡_}
 use mathlib.Core.List.{List, [], _∷_, _++_}
 use lib.ListN.{length, take, replicate}
 use lib.Dec.{leb, ltb}
+use lib.Seq.{sets}
 use Rattle.machine.specs.Word.{pick}
 use Rattle.text.specs.Digits.{digits, shown}
 use Rattle.text.specs.Report.{Wrote}
@@ -45,6 +46,11 @@ octalRead n (octal.Wrong line) = Refusal (refusedLine 10 line)
 
 unfoldable pub octalGiven : ℕ → List ℕ → Given
 octalGiven n text = unlessLong text (octalRead n (octalOf text))
+
+-- the room after: the parcels from its start on, and what lies past them as it was; refused, as found
+abbrev pub roomGiven : Given → List ℕ → List ℕ
+roomGiven (Some ps) room = sets room 0 ps
+roomGiven (Refusal s) room = room
 
 -- what is answered: something made of the parcels, or the refusal
 abbrev pub answered : (List ℕ → List ℕ) → Given → List ℕ

@@ -7,7 +7,7 @@ ghost use Rattle.text.specs.Digits.{digits};
 ghost use Rattle.text.specs.Report.{Wrote};
 ghost use Rattle.spelling.specs.Listing.{dataLine, lineOf, parcelsIn};
 ghost use Rattle.spelling.specs.Rows.{rowOf};
-ghost use Rattle.desk.specs.Desk.{Gives, calGiven, octalGiven, calOf, sheetWords, calWordsOf, listedIn, listingOf, blanks, column};
+ghost use Rattle.desk.specs.Desk.{Gives, calGiven, octalGiven, roomGiven, calOf, sheetWords, calWordsOf, listedIn, listingOf, blanks, column};
 ghost use Rattle.desk.specs.Desk.{oneParcel, twoParcels, wideLine};
 use octal::Reading;
 use spelling::Assembled;
@@ -31,6 +31,7 @@ pub struct Wide {
 // Assembles a text of CAL, or writes its refusal.
 fn assemble(text: &[u8], parcels: &mut [u16], out: &mut [u8]) -> Input
     ensures { λ r. ⌜ Gives (calGiven (length (now (parcels .entry))) (now (text .entry))) (now (parcels .exit)) (now (out .entry)) (now (out .exit)) r ⌝ }
+    ensures { λ _. ⌜ now (parcels .exit) ≡ roomGiven (calGiven (length (now (parcels .entry))) (now (text .entry))) (now (parcels .entry)) ⌝ }
 {
     if LONGEST < text.len() {
         return Input::Refused(octal::put_refused_line(out, 10, 0));
@@ -45,6 +46,7 @@ fn assemble(text: &[u8], parcels: &mut [u16], out: &mut [u8]) -> Input
 // Reads a text of octal parcels, or writes its refusal.
 pub fn read(text: &[u8], parcels: &mut [u16], out: &mut [u8]) -> Input
     ensures { λ r. ⌜ Gives (octalGiven (length (now (parcels .entry))) (now (text .entry))) (now (parcels .exit)) (now (out .entry)) (now (out .exit)) r ⌝ }
+    ensures { λ _. ⌜ now (parcels .exit) ≡ roomGiven (octalGiven (length (now (parcels .entry))) (now (text .entry))) (now (parcels .entry)) ⌝ }
 {
     if LONGEST < text.len() {
         return Input::Refused(octal::put_refused_line(out, 10, 0));
@@ -58,7 +60,8 @@ pub fn read(text: &[u8], parcels: &mut [u16], out: &mut [u8]) -> Input
 
 // The answer of `cal`.
 pub fn cal(text: &[u8], parcels: &mut [u16], out: &mut [u8]) -> usize
-    ensures { λ r. ⌜ Wrote (now (out .entry)) 0 (calOf (length (now (parcels .entry))) (now (text .entry))) (now (out .exit)) r ⌝ }
+    ensures { λ r. ⌜ Wrote (now (out .entry)) 0 (calOf (length (now (parcels .entry))) (now (text .entry))) (now (out .exit)) r
+        × (now (parcels .exit) ≡ roomGiven (calGiven (length (now (parcels .entry))) (now (text .entry))) (now (parcels .entry))) ⌝ }
     ensures { λ r. ⌜ r ≤ 272 + 7 * length (now (parcels .entry)) ⌝ }
 {
     match assemble(text, parcels, out) {
@@ -84,7 +87,8 @@ fn put_sheet(parcels: &[u16], address: u64, out: &mut [u8]) -> usize
 
 // The answer of `cal ADDRESS`.
 pub fn cal_words(text: &[u8], address: u64, parcels: &mut [u16], out: &mut [u8]) -> usize
-    ensures { λ r. ⌜ Wrote (now (out .entry)) 0 (calWordsOf (length (now (parcels .entry))) address (now (text .entry))) (now (out .exit)) r ⌝ }
+    ensures { λ r. ⌜ Wrote (now (out .entry)) 0 (calWordsOf (length (now (parcels .entry))) address (now (text .entry))) (now (out .exit)) r
+        × (now (parcels .exit) ≡ roomGiven (calGiven (length (now (parcels .entry))) (now (text .entry))) (now (parcels .entry))) ⌝ }
     ensures { λ r. ⌜ r ≤ 90112 ⌝ }
 {
     match assemble(text, parcels, out) {
@@ -107,7 +111,8 @@ fn put_listing(parcels: &[u16], out: &mut [u8]) -> usize
 // The answer of `listing`.
 pub fn listing(text: &[u8], parcels: &mut [u16], out: &mut [u8]) -> usize
     ensures { λ r. ⌜ Wrote (now (out .entry)) 0 (listingOf (length (now (parcels .entry))) (length (now (out .entry))) (now (text .entry)))
-        (now (out .exit)) r ⌝ }
+        (now (out .exit)) r
+        × (now (parcels .exit) ≡ roomGiven (octalGiven (length (now (parcels .entry))) (now (text .entry))) (now (parcels .entry))) ⌝ }
     ensures { λ r. ⌜ (272 ≤ length (now (out .entry)) → r ≤ length (now (out .entry))) ⌝ }
 {
     match read(text, parcels, out) {

@@ -1,34 +1,38 @@
 use mathlib.Core.Path.{sym, _∙_}
 use native.Mathlib.Omega.{arith}
-use Rattle.desk.proofs.Texts.{octal-long, octal-holds, octal-bad, octal-full, gives-some, gives-refusal}
+use Rattle.desk.proofs.Texts.{octal-long, octal-holds, octal-bad, octal-full, octal-room, refused-room, gives-some, gives-refusal}
 use borrow.Author.Needs.{needs}
 use Rattle.desk.proofs.read.Statement.{statement}
 use Rattle.desk.proofs.read.Tie as tie
 
 returns : tie.Need-returns
 returns c =
-    gives-refusal (octal-long _ _ (c .before .before .before .before .if1 .taken)) (c .before .before .put-refused-line .ensures .0)
-    (c .before .before .put-refused-line .ensures .1)
+    let told = c .before .before .put-refused-line .ensures in
+    let long = octal-long _ _ (c .before .before .before .before .if1 .taken) in
+    (gives-refusal long (told .0) (told .1), refused-room _ _ _ long)
 
 returns-2 : tie.Need-returns-2
 returns-2 c =
-    let h = octal-holds _ _ (c .before .before .before .before .before .before .before .if1 .left) _
-    (c .before .before .before .before .before .read .ensures .1) _
-    (sym (c .before .before .before .before .before .read .ensures .0) ∙ c .before .n .given .1) in
-    gives-some (h .0) (h .1) (h .2)
+    let read = c .before .before .before .before .before .read .ensures in
+    let short = c .before .before .before .before .before .before .before .if1 .left in
+    let h = octal-holds _ _ short _ (read .1) _ (sym (read .0) ∙ c .before .n .given .1) in
+    (gives-some (h .0) (h .1) (h .2), read .1 ∙ octal-room _ _ short)
 
 returns-3 : tie.Need-returns-3
 returns-3 c =
-    gives-refusal (octal-bad _ _ (c .before .before .before .before .before .before .before .before .before .before .before .if1 .left) _ (sym
-    (c .before .before .before .before .before .before .before .before .before .read .ensures .0)
-    ∙ c .before .before .before .before .before .line .given .1)) (c .before .before .put-refused-line2 .ensures .0) (c .before .before
-    .put-refused-line2 .ensures .1)
+    let told = c .before .before .put-refused-line2 .ensures in
+    let read = c .before .before .before .before .before .before .before .before .before .read .ensures in
+    let short = c .before .before .before .before .before .before .before .before .before .before .before .if1 .left in
+    let bad = octal-bad _ _ short _ (sym (read .0) ∙ c .before .before .before .before .before .line .given .1) in
+    (gives-refusal bad (told .0) (told .1), read .1 ∙ octal-room _ _ short)
 
 returns-4 : tie.Need-returns-4
 returns-4 c =
-    gives-refusal (octal-full _ _ (c .before .before .before .before .before .before .before .before .before .before .if1 .left) (sym
-    (c .before .before .before .before .before .before .before .before .read .ensures .0) ∙ c .before .before .before .before .enum-told .given .1))
-    (c .before .before .put-refused .ensures .0) (omega (arith, c .before .before .put-refused .ensures .1))
+    let told = c .before .before .put-refused .ensures in
+    let read = c .before .before .before .before .before .before .before .before .read .ensures in
+    let short = c .before .before .before .before .before .before .before .before .before .before .if1 .left in
+    let full = octal-full _ _ short (sym (read .0) ∙ c .before .before .before .before .enum-told .given .1) in
+    (gives-refusal full (told .0) (omega (arith, told .1)), read .1 ∙ octal-room _ _ short)
 
 pub read-spec : {M : Type 1} → statement M
 read-spec =

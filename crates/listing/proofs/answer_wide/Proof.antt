@@ -7,30 +7,30 @@ use Rattle.listing.proofs.answer_wide.Statement.{statement}
 use Rattle.listing.proofs.answer_wide.Tie as tie
 
 slice-reshare-prefix-write-wide : tie.Need-slice-reshare-prefix-write-wide
-slice-reshare-prefix-write-wide c = c .before .before .before .before .before .before .before .read .ensures .holds _ (c .before .k .given .1) .1
+slice-reshare-prefix-write-wide c = c .before .before .before .before .before .before .before .read .ensures .0 .holds _ (c .before .k .given .1) .1
 
 slice-aggregate-write-wide : tie.Need-slice-aggregate-write-wide
 slice-aggregate-write-wide c =
-    sym (held (c .before .before .before .before .before .before .before .before .read .ensures) _ (c .before .before .k .given .1))
+    sym (held (c .before .before .before .before .before .before .before .before .read .ensures .0) _ (c .before .before .k .given .1))
 
 write-wide-requires : tie.Need-write-wide-requires
 write-wide-requires c κs =
     omega (
       arith,
-      c .before .before .before .before .before .before .before .before .read .ensures .holds _ (c .before .before .k .given .1) .2,
+      c .before .before .before .before .before .before .before .before .read .ensures .0 .holds _ (c .before .before .k .given .1) .2,
       held
-          (c .before .before .before .before .before .before .before .before .read .ensures) _ (c .before .before .k .given .1),
+          (c .before .before .before .before .before .before .before .before .read .ensures .0) _ (c .before .before .k .given .1),
     )
 
 slice-reshare-prefix-write-all : tie.Need-slice-reshare-prefix-write-all
 slice-reshare-prefix-write-all c =
-    omega (arith, c .before .before .before .before .before .before .before .read .ensures .refused _ (c .before .end .given .1) .1)
+    omega (arith, c .before .before .before .before .before .before .before .read .ensures .0 .refused _ (c .before .end .given .1) .1)
 
 slice-aggregate-write-all : tie.Need-slice-aggregate-write-all
 slice-aggregate-write-all c =
     sym (length-take-le _ _ (omega (
       arith,
-      c .before .before .before .before .before .before .before .before .read .ensures .refused _
+      c .before .before .before .before .before .before .before .before .read .ensures .0 .refused _
           (c .before .before .end .given .1) .1,
     )))
 
