@@ -1,4 +1,4 @@
-// Answers the stored case sheets: the files 0000 to 1023 of data/, each after a line of its number.
+// Answers the stored case sheets: the files 0000 to 1499 of data/, each after a line of its number.
 use libc::STDOUT_FILENO;
 
 // The four digits of a number below 10,000.
@@ -27,7 +27,7 @@ fn put_case(k: u64) {
 }
 
 fn main() {
-    for k in 0..1024 {
+    for k in 0..1500 {
         put_case(k);
     }
 }

@@ -97,3 +97,121 @@ impl Code {
 pub fn find(parcel: u16) -> Option<usize> {
     CODES.iter().position(|code| fits(code.text, parcel))
 }
+
+/// The pattern of a first parcel, if it is held in this mode.
+pub fn held(parcel: u16, monitor: bool) -> Option<usize> {
+    find(parcel).filter(|n| CODES[*n].held(monitor))
+}
+
+// What the digits of a pattern name, and what it does with them.
+
+#[derive(Clone, Copy, PartialEq, Eq, Hash, Debug)]
+pub enum Designator {
+    H,
+    J,
+    K,
+}
+
+#[derive(Clone, Copy, PartialEq, Eq, Hash, Debug)]
+pub enum File {
+    A,
+    S,
+}
+
+/// An operand by its designator, and the registers that it names.
+#[derive(Clone, Copy, PartialEq, Eq, Hash, Debug)]
+pub struct Operand(pub Designator, pub File);
+
+impl Designator {
+    /// How far its digit stands from the right of a parcel.
+    pub fn shift(self) -> u16 {
+        match self {
+            Designator::H => 9,
+            Designator::J => 3,
+            Designator::K => 0,
+        }
+    }
+}
+
+/// The operands that are constants where their designator is zero.
+pub fn specials(text: &str) -> &'static [Operand] {
+    use {Designator::*, File::*};
+    match text {
+        "00200k" | "071i0k" | "071i1k" | "076ijk" | "150ijk" | "151ijk" | "152ijk" | "153ijk"
+        | "176i0k" | "1770jk" => &[Operand(K, A)],
+        "0013j0" => &[Operand(J, A)],
+        "0030j0" | "023ij0" | "026ij0" | "026ij1" | "027ij0" | "140ijk" | "142ijk" | "144ijk"
+        | "146ijk" | "154ijk" | "156ijk" => &[Operand(J, S)],
+        "030ijk" | "031ijk" | "032ijk" => &[Operand(J, A), Operand(K, A)],
+        "044ijk" | "045ijk" | "046ijk" | "047ijk" | "050ijk" | "051ijk" | "060ijk" | "061ijk" => {
+            &[Operand(J, S), Operand(K, S)]
+        }
+        "056ijk" | "057ijk" | "077ijk" => &[Operand(J, S), Operand(K, A)],
+        "10hijkm" | "11hijkm" | "12hijkm" | "13hijkm" => &[Operand(H, A)],
+        _ => &[],
+    }
+}
+
+/// How a shift takes its count, and from which count on nothing is left.
+#[derive(Clone, Copy, PartialEq, Eq, Debug)]
+pub enum Shift {
+    /// By jk.
+    Left,
+    /// By 64-jk.
+    Right,
+    /// By Ak.
+    Register(u32),
+}
+
+pub fn shift(text: &str) -> Option<Shift> {
+    match text {
+        "052ijk" | "054ijk" => Some(Shift::Left),
+        "053ijk" | "055ijk" => Some(Shift::Right),
+        "150ijk" | "151ijk" => Some(Shift::Register(64)),
+        "056ijk" | "057ijk" | "152ijk" | "153ijk" => Some(Shift::Register(128)),
+        _ => None,
+    }
+}
+
+/// The operands of a vector instruction that are vectors.
+pub fn vectors(text: &str) -> &'static [Designator] {
+    use Designator::*;
+    match text {
+        "141ijk" | "143ijk" | "145ijk" | "147ijk" | "155ijk" | "157ijk" => &[J, K],
+        "140ijk" | "142ijk" | "144ijk" | "146ijk" | "154ijk" | "156ijk" => &[K],
+        "150ijk" | "151ijk" | "152ijk" | "153ijk" | "174ij1" | "174ij2" => &[J],
+        _ => &[],
+    }
+}
+
+/// Whether it is a branch on A0 or S0.
+pub fn is_branch(text: &str) -> bool {
+    text.starts_with("01") && text.contains('u')
+}
+
+pub fn is_vector(text: &str) -> bool {
+    text.starts_with("14") || text.starts_with("15") || text.starts_with("17")
+}
+
+/// Whether an instruction refers to memory: none, reads, or stores.
+#[derive(Clone, Copy, PartialEq, Eq, Debug)]
+pub enum Reference {
+    No,
+    Word(bool),
+    Row(bool),
+}
+
+pub fn reference(text: &str) -> Reference {
+    match text {
+        "10hijkm" | "12hijkm" => Reference::Word(false),
+        "11hijkm" | "13hijkm" => Reference::Word(true),
+        "034ijk" | "036ijk" | "176i0k" => Reference::Row(false),
+        "035ijk" | "037ijk" | "1770jk" => Reference::Row(true),
+        _ => Reference::No,
+    }
+}
+
+/// Whether nothing is held of a code, given by its first seven bits.
+pub fn empty(gh: u16) -> bool {
+    (0..512).all(|ijk| find(gh << 9 | ijk).is_none())
+}

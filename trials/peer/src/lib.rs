@@ -5,7 +5,8 @@
 //! its instructions in `ops`, the exchange package in `state`, and the case
 //! sheet in `sheet`. `cal` has the assembler and its listing. `cases` makes case
 //! sheets and texts for `cal` from seeds, `cover` counts what the sheets reach,
-//! and `packs` answers many texts in one process.
+//! and `packs` answers many texts in one process. `switch` is for a copy with
+//! deliberate errors.
 
 #![forbid(unsafe_code)]
 
@@ -18,6 +19,7 @@ mod ops;
 pub mod packs;
 pub mod sheet;
 pub mod state;
+pub mod switch;
 
 #[cfg(test)]
 mod cal_tests;

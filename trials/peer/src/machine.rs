@@ -210,7 +210,7 @@ impl<'s> Machine<'s> {
     }
 
     /// Swaps with the package that XA names now, before the swap changes it.
-    fn exchange(&mut self, memory: &mut [u64], flags: u16) -> Answer {
+    pub(crate) fn exchange(&mut self, memory: &mut [u64], flags: u16) -> Answer {
         let at = self.r.xa as usize * 16;
         let mut package = self.r.save(flags);
         memory[at..at + 16].swap_with_slice(&mut package);

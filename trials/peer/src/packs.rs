@@ -3,11 +3,10 @@
 use std::error::Error;
 use std::io::{self, BufRead, Write};
 
-/// Answers each text of a pack after a line `@ NAME`.
-pub fn answer_all(
+/// Gives each text of a pack, with its name.
+pub fn each(
     mut input: impl BufRead,
-    out: &mut impl Write,
-    answer: impl Fn(&str, &[u8]) -> Vec<u8>,
+    mut take: impl FnMut(&str, Vec<u8>),
 ) -> Result<(), Box<dyn Error>> {
     let mut line = String::new();
     while input.read_line(&mut line)? > 0 {
@@ -18,10 +17,25 @@ pub fn answer_all(
         };
         let mut text = vec![0; length.parse()?];
         input.read_exact(&mut text)?;
-        write_answer(out, name, &answer(name, &text))?;
+        take(name, text);
         line.clear();
     }
     Ok(())
+}
+
+/// Answers each text of a pack after a line `@ NAME`.
+pub fn answer_all(
+    input: impl BufRead,
+    out: &mut impl Write,
+    answer: impl Fn(&str, &[u8]) -> Vec<u8>,
+) -> Result<(), Box<dyn Error>> {
+    let mut wrote = Ok(());
+    each(input, |name, text| {
+        if wrote.is_ok() {
+            wrote = write_answer(out, name, &answer(name, &text));
+        }
+    })?;
+    Ok(wrote?)
 }
 
 /// Writes one answer after its line `@ NAME`.

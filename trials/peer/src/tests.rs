@@ -447,10 +447,43 @@ fn kinds_make_good_and_bad_sheets() {
 #[test]
 fn a_sweep_reaches_its_parcel() {
     for seed in [0o004_000, 0o176_305, 65_536 + 0o001_000, 131_071] {
-        let mut cover = Cover::new();
+        let mut cover = Cover::default();
         cover.sheet(&cases::text("sweep", seed).unwrap());
         assert!(cover.tried(seed as u16, seed > 65_535), "{seed}");
     }
+}
+
+/// How many of the sheets reach a cell: those that `missing` counts.
+fn reaching(cell: &str, sheets: &[String]) -> usize {
+    let mut cover = Cover::default();
+    sheets.iter().for_each(|text| cover.sheet(text.as_bytes()));
+    let missing = cover.missing();
+    let line = missing.iter().find(|line| line[2..] == *cell);
+    line.map_or(3, |line| usize::from(line.as_bytes()[0] - b'0'))
+}
+
+/// A sheet in monitor mode with two numbers in A0 and S0 and one word of code.
+fn of_word(steps: u32, a0: u32, s0: u64, code: u64) -> String {
+    format!(
+        "steps={steps}\nwords=7\n0000=0000000000{a0:06X}\n0001=0000000400000000\n\
+         0002=0000000801000000\n0004=0000000800000000\n0005=0000000C00000000\n\
+         0008={s0:016X}\n0400={code:016X}\n"
+    )
+}
+
+#[test]
+fn a_cell_wants_another_answer() {
+    // 030102, A1 = 0+A2: the true A0 is seen if it is not 0.
+    let sum = |a0| of_word(1, a0, 0, 0o030_102 << 48);
+    let cell = "030ijk with J 0, not A0";
+    assert_eq!(reaching(cell, &[sum(0)]), 0);
+    assert_eq!(reaching(cell, &[sum(0), sum(5), sum(6)]), 2);
+    assert_eq!(reaching(cell, &[sum(7), sum(5), sum(6)]), 3);
+    // 077102, an element of V1 = 0, is seen if 076312 takes it to S3.
+    let element = |steps| of_word(steps, 0, 9, 0o077_102 << 48 | 0o076_312 << 32);
+    let cell = "077ijk with J 0, not S0";
+    assert_eq!(reaching(cell, &[element(1)]), 0);
+    assert_eq!(reaching(cell, &[element(2)]), 1);
 }
 
 /// A number that any change of the texts changes (FNV-1a over their bytes).
@@ -467,6 +500,10 @@ fn seeds_name_the_same_texts_for_ever() {
     assert_eq!(mark("random", 0..100), 0x2539_B2D0_BAE1_DE06);
     assert_eq!(mark("sweep", 65_500..65_600), 0xC297_A90C_9B50_ED73);
     assert_eq!(mark("damaged", 0..300), 0x2CC1_A50E_A8EF_1784);
+    assert_eq!(mark("probes", 0..100), 0);
+    assert_eq!(mark("rings", 0..100), 0);
+    assert_eq!(mark("loops", 0..100), 0);
+    assert_eq!(mark("numbers", 0..100), 0);
     assert_eq!(mark("cal", 0..100), 0x75BA_6BDE_5C35_1D85);
     assert_eq!(mark("cal-damaged", 0..400), 0x18B1_1362_AF6A_9045);
     assert_eq!(mark("octal", 0..200), 0x2693_9A00_2EE0_4592);

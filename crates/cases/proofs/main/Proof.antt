@@ -5,10 +5,10 @@ use Rattle.cases.proofs.main.Statement.{statement}
 use Rattle.cases.proofs.main.Tie as tie
 
 abbrev Inv-loop : tie.InvT-loop
-Inv-loop k₀ k = k ≤ 1024
+Inv-loop k₀ k = k ≤ 1500
 
 abbrev μ-loop : tie.MeasureT-loop
-μ-loop k₀ k = 1024 - k
+μ-loop k₀ k = 1500 - k
 
 pub main-spec : {M : Type 1} → statement M
 main-spec =

@@ -3,17 +3,13 @@
 //!   generate KIND SEED                one text to standard output
 //!   generate KIND FIRST LAST          a pack of texts to standard output
 //!   generate KIND FIRST LAST FOLDER   one file for each text
-//!   generate --cover KIND FIRST LAST [KIND FIRST LAST ...]
-//!       runs the sheets, prints what they reached to standard error, and
-//!       fails if something that they should reach is missing
 //!
-//! KIND is random, sweep or damaged for sheets, cal or cal-damaged for texts of
+//! KIND is random, sweep, loops, rings or damaged for sheets, cal or cal-damaged for texts of
 //! the assembler, octal for those of the lister; FIRST and LAST are both
 //! included. A pack has, for each text, a line `@ NAME BYTES` and then so many
 //! bytes.
 
 use peer::cases::{Kind, KINDS};
-use peer::cover::Cover;
 use std::io::{self, BufWriter, Write};
 use std::path::Path;
 use std::process::ExitCode;
@@ -22,11 +18,10 @@ fn main() -> ExitCode {
     let arguments: Vec<String> = std::env::args().skip(1).collect();
     let arguments: Vec<&str> = arguments.iter().map(String::as_str).collect();
     let done = match arguments[..] {
-        ["--cover", ref rest @ ..] => cover(rest),
         [kind, seed] => one(kind, seed),
         [kind, first, last] => pack(kind, first, last),
         [kind, first, last, folder] => files(kind, first, last, folder),
-        _ => Err("generate KIND SEED | KIND FIRST LAST [FOLDER] | --cover ...".into()),
+        _ => Err("generate KIND SEED | KIND FIRST LAST [FOLDER]".into()),
     };
     match done {
         Ok(()) => ExitCode::SUCCESS,
@@ -74,24 +69,4 @@ fn files(of: &str, first: &str, last: &str, folder: &str) -> Done {
         std::fs::write(Path::new(folder).join(file), (kind.text)(seed))?;
     }
     Ok(())
-}
-
-fn cover(ranges: &[&str]) -> Done {
-    let mut cover = Cover::new();
-    for range in ranges.chunks(3) {
-        let [of, first, last] = *range else {
-            return Err("--cover wants KIND FIRST LAST".into());
-        };
-        let text = kind(of)?.text;
-        for seed in first.parse()?..=last.parse()? {
-            cover.sheet(&text(seed));
-        }
-    }
-    cover.print(&mut io::stderr().lock())?;
-    let missing = cover.missing();
-    if missing.is_empty() {
-        eprintln!("nothing is missing");
-        return Ok(());
-    }
-    Err(format!("missing:\n{}", missing.join("\n")).into())
 }

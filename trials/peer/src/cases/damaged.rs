@@ -163,6 +163,38 @@ fn sized(number: usize) -> Vec<u8> {
     text
 }
 
+/// Forms of a number, which is n, and of the largest that is taken, m.
+const FORMS: [fn(u64, u64) -> String; 12] = [
+    |_, _| String::new(),
+    |n, _| format!("+{n}"),
+    |n, _| format!("-{n}"),
+    |n, _| format!("0{n}"),
+    |n, _| format!(" {n}"),
+    |n, _| format!("{n} "),
+    |n, _| format!("{n:X}h"),
+    |_, m| format!("{m}"),
+    |_, m| format!("{}", m + 1),
+    |_, m| format!("{}", m * 2),
+    |n, m| format!("{}{n}", m * 10),
+    |n, _| format!("{}", (1 << 32) + n),
+];
+
+/// A whole sheet with another number in its first line, or in its second, by
+/// turns; the forms come by turns too.
+pub fn numbers(seed: u64) -> Vec<u8> {
+    let mut draw = Draw::new(0xB0D5, seed);
+    let text = stopping(&mut draw);
+    let (line, most) = [(0, 1_000_000), (1, 1_024)][(seed % 2) as usize];
+    let form = FORMS[(seed / 2) as usize % FORMS.len()];
+    let mut lines: Vec<Vec<u8>> = split_lines(&text);
+    let old = String::from_utf8_lossy(&lines[line]).into_owned();
+    if let Some((name, number)) = old.trim_end().split_once('=') {
+        let number = form(number.parse().unwrap_or_default(), most);
+        lines[line] = format!("{name}={number}\n").into_bytes();
+    }
+    lines.concat()
+}
+
 fn drawn(draw: &mut Draw) -> Vec<u8> {
     let mut text = base(draw);
     if draw.below(8) == 0 {
@@ -172,6 +204,18 @@ fn drawn(draw: &mut Draw) -> Vec<u8> {
         damage(draw, &mut text);
     }
     text
+}
+
+/// A small sheet that stops at its first step, in monitor mode without an
+/// instruction field.
+fn stopping(draw: &mut Draw) -> Vec<u8> {
+    let mut draft = Draft {
+        steps: draw.below(20),
+        ..Draft::default()
+    };
+    draft.words.insert(2, 1 << 24);
+    draft.data(0x10 + draw.below(99) as u32, draw.below(9) as u32, draw);
+    draft.text()
 }
 
 /// A whole sheet: a small one of its own, or one of another kind.
@@ -226,13 +270,15 @@ pub fn lines(
     text: &mut Vec<u8>,
     change: impl Fn(&mut Draw, &mut Vec<Vec<u8>>, usize),
 ) {
-    let mut list: Vec<Vec<u8>> = text
-        .split_inclusive(|byte| *byte == b'\n')
-        .map(<[u8]>::to_vec)
-        .collect();
+    let mut list = split_lines(text);
     if !list.is_empty() {
         let n = draw.below(list.len() as u64) as usize;
         change(draw, &mut list, n);
     }
     *text = list.concat();
+}
+
+fn split_lines(text: &[u8]) -> Vec<Vec<u8>> {
+    let lines = text.split_inclusive(|byte| *byte == b'\n');
+    lines.map(<[u8]>::to_vec).collect()
 }

@@ -1,18 +1,23 @@
-//! Texts made from seeds: a kind and a seed name one text for ever. The first
-//! three kinds are case sheets; then come texts for the assembler, good and
+//! Texts made from seeds: a kind and a seed name one text for ever. Case sheets
+//! come first, the damaged ones last; then texts for the assembler, good and
 //! damaged, and for the lister.
 
+mod body;
 mod build;
 mod cal;
 mod cal_damaged;
 mod damaged;
 mod draw;
+mod loops;
 mod octal;
 mod parts;
+mod probes;
 mod random;
+mod rings;
 mod sweep;
 
 pub use cal_damaged::{LATER, REFUSED};
+pub use sweep::words as sweep_words;
 
 pub struct Kind {
     pub name: &'static str,
@@ -23,10 +28,14 @@ pub struct Kind {
 }
 
 #[rustfmt::skip]
-pub const KINDS: [Kind; 6] = [
+pub const KINDS: [Kind; 10] = [
     Kind { name: "random", ending: "sheet", text: random::sheet },
     Kind { name: "sweep", ending: "sheet", text: sweep::sheet },
+    Kind { name: "probes", ending: "sheet", text: probes::sheet },
+    Kind { name: "loops", ending: "sheet", text: loops::sheet },
+    Kind { name: "rings", ending: "sheet", text: rings::sheet },
     Kind { name: "damaged", ending: "sheet", text: damaged::sheet },
+    Kind { name: "numbers", ending: "sheet", text: damaged::numbers },
     Kind { name: "cal", ending: "cal", text: cal::text },
     Kind { name: "cal-damaged", ending: "cal", text: cal_damaged::text },
     Kind { name: "octal", ending: "octal", text: octal::text },

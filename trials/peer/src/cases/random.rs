@@ -5,10 +5,10 @@
 //! shape; the last one mostly writes the hidden registers to memory. XA joins
 //! them in a row, so any cause of an exchange goes on to the next program.
 
+use super::body::Body;
 use super::build::{Draft, Package, Program, MONITOR};
 use super::draw::Draw;
-use super::parts::{aim, data_field, dump, fill, stride, WIDE};
-use crate::codes::{digits, Code, Mode, CODES};
+use super::parts::{data_field, dump, fill, WIDE};
 
 const DATA: u32 = 0x400;
 const DATA_WORDS: u32 = 200;
@@ -33,14 +33,6 @@ struct Case {
     draft: Draft,
     /// The package numbers of the programs in a row.
     slots: Vec<u32>,
-}
-
-/// A conditional branch whose target is still to be found: its place among the
-/// parcels and the instructions to be skipped.
-struct Skip {
-    parcel: usize,
-    gh: u16,
-    after: usize,
 }
 
 impl Case {
@@ -155,179 +147,20 @@ impl Case {
             fill(&mut program, &mut self.draw, DATA_WORDS);
         }
         let most = if last { 80 } else { 300 };
-        self.body(&mut program, &package, most);
+        let mut body = Body {
+            draw: &mut self.draw,
+            program: &mut program,
+            package: &package,
+            slots: &self.slots,
+            endless: false,
+        };
+        body.write(most);
         if alone && self.draw.often(80) {
             dump(&mut program, 0x400);
         }
         self.ending(&mut program, base, blocks * 128);
         self.draft.program(base, &program);
         self.place(number, &package);
-    }
-
-    /// Drawn instructions, up to about `most` parcels.
-    fn body(&mut self, program: &mut Program, package: &Package, most: usize) {
-        let wanted = self.draw.from(1, 45) as usize;
-        let mut starts = Vec::new();
-        let mut skips = Vec::new();
-        while starts.len() < wanted && program.parcels.len() < most {
-            starts.push(program.here());
-            if self.draw.below(300) == 0 {
-                program.parcels.push(self.draw.next() as u16);
-                continue;
-            }
-            let code = self.code(package.modes & MONITOR != 0);
-            let skip = self.instruction(program, package, code, &starts);
-            skips.extend(skip);
-        }
-        starts.push(program.here());
-        for skip in skips {
-            let target = starts[skip.after.min(starts.len() - 1)];
-            let mut branch = Program::new(0);
-            branch.branch(skip.gh, target);
-            program.parcels[skip.parcel..skip.parcel + 2].copy_from_slice(&branch.parcels);
-        }
-    }
-
-    /// A pattern, those that end a program or stop it being rare.
-    fn code(&mut self, monitor: bool) -> Code {
-        loop {
-            let code = self.draw.pick(CODES);
-            let rare = match code.text {
-                "000000" => 15,
-                "004000" => 25,
-                "006ujkm" | "007ujkm" | "0050jk" => 70,
-                _ if code.mode == Mode::User && monitor => 1,
-                _ => 100,
-            };
-            if self.draw.often(rare) {
-                return code;
-            }
-        }
-    }
-
-    /// Emits one instruction and, before it, what gives it good operands.
-    fn instruction(
-        &mut self,
-        program: &mut Program,
-        package: &Package,
-        code: Code,
-        starts: &[u32],
-    ) -> Option<Skip> {
-        let mut parcel = 0;
-        for letter in code.text.bytes().take(6) {
-            let range = digits(letter);
-            let digit = self
-                .draw
-                .from(u64::from(*range.start()), u64::from(*range.end()));
-            parcel = parcel << 3 | digit as u16;
-        }
-        let mut second = self.draw.next() as u16;
-        match parcel >> 9 {
-            0o006..=0o017 if parcel & 0o400 == 0 => {
-                return self.branch(program, parcel, second, starts);
-            }
-            0o005 if self.draw.often(85) => self.link(program, parcel),
-            0o100..=0o137 => (parcel, second) = self.reference(program, package, parcel, second),
-            _ => self.operands(program, package, parcel),
-        }
-        program.parcels.push(parcel);
-        if code.two_parcels() {
-            program.parcels.push(second);
-        }
-        None
-    }
-
-    fn branch(
-        &mut self,
-        program: &mut Program,
-        parcel: u16,
-        second: u16,
-        starts: &[u32],
-    ) -> Option<Skip> {
-        let gh = parcel >> 9;
-        match gh {
-            0o010..=0o013 if self.draw.often(60) => {
-                let any = self.draw.address();
-                let value = self.draw.pick(&[0, 0, 1, 0x80_0000, any]);
-                program.set_a(0, value);
-            }
-            0o014..=0o017 if self.draw.often(60) => {
-                // Ones at the left: none, the sign alone, or more.
-                let ones = self.draw.pick(&[0, 0, 1, 63]);
-                program.one(0o043, 0, ones >> 3, ones & 7);
-            }
-            _ => {}
-        }
-        if self.draw.often(40) {
-            program.parcels.push(parcel);
-            program.parcels.push(second);
-            return None;
-        }
-        if self.draw.often(8) {
-            // Back, or to a place that only a cut address would be.
-            let high = 1 << self.draw.from(10, 23);
-            let high = self.draw.pick(&[0, 0, high, 1 << 23]);
-            program.branch(gh, self.draw.pick(starts) | high);
-            return None;
-        }
-        let after = starts.len() + self.draw.below(4) as usize;
-        let place = program.parcels.len();
-        program.branch(gh, 0);
-        let parcel = place;
-        Some(Skip { parcel, gh, after })
-    }
-
-    /// Puts the address after the branch to Bjk into that register.
-    fn link(&mut self, program: &mut Program, parcel: u16) {
-        let via = self.draw.digit();
-        program.set_a(via, program.here() + 4);
-        program.one(0o025, via, parcel >> 3 & 7, parcel & 7);
-    }
-
-    /// Sets Ah so that Ah+jkm meets an address that matters.
-    fn reference(
-        &mut self,
-        program: &mut Program,
-        package: &Package,
-        parcel: u16,
-        second: u16,
-    ) -> (u16, u16) {
-        let target = aim(&mut self.draw, package.data);
-        let h = parcel >> 9 & 7;
-        if h == 0 && self.draw.often(50) {
-            return (parcel & !0o77 | (target >> 16) as u16 & 0o77, target as u16);
-        }
-        let jkm = u32::from(parcel & 0o77) << 16 | u32::from(second);
-        if h != 0 && self.draw.often(80) {
-            program.set_a(h, target.wrapping_sub(jkm) & 0xFF_FFFF);
-        }
-        (parcel, second)
-    }
-
-    /// Sets the A registers that an instruction takes a count, an address, a
-    /// length or a package from.
-    fn operands(&mut self, program: &mut Program, package: &Package, parcel: u16) {
-        let (i, j, k) = (parcel >> 6 & 7, parcel >> 3 & 7, parcel & 7);
-        if self.draw.often(25) {
-            return;
-        }
-        match parcel >> 9 {
-            0o001 if i == 3 => {
-                let slot = self.draw.pick(&self.slots);
-                program.set_a(j, slot << 4 | self.draw.below(16) as u32);
-            }
-            0o002 if i == 0 => program.set_a(k, self.draw.below(130) as u32),
-            0o034..=0o037 => {
-                program.set_a(i, self.draw.count());
-                program.set_a(0, aim(&mut self.draw, package.data));
-            }
-            0o056 | 0o057 | 0o150..=0o153 => program.set_a(k, self.draw.count()),
-            0o176 | 0o177 => {
-                program.set_a(k, stride(&mut self.draw));
-                program.set_a(0, aim(&mut self.draw, package.data));
-            }
-            _ => {}
-        }
     }
 
     /// What stands after the body: an exit, a stop, a loop, a branch away, or

@@ -8,11 +8,27 @@
 use super::build::{Draft, Package, Program, IOR, MONITOR};
 use super::draw::Draw;
 use super::parts::{aim, data_field, fill, fold, stride, FILL_STEPS, WIDE};
+use crate::sheet::Sheet;
 
 const DATA: u32 = 0x400;
 const DATA_WORDS: u32 = 80;
 
 pub fn sheet(seed: u64) -> Vec<u8> {
+    draft(seed).text()
+}
+
+/// The sheet as it is read, without its text: that is most of the work where
+/// all sheets are run one after the other.
+pub fn words(seed: u64) -> Sheet {
+    let draft = draft(seed);
+    let words = draft.words.iter();
+    Sheet {
+        steps: draft.steps,
+        words: words.map(|(n, word)| (*n as u16, *word)).collect(),
+    }
+}
+
+fn draft(seed: u64) -> Draft {
     let mut draw = Draw::new(0x5EEE, seed);
     let first = (seed & 0xFFFF) as u16;
     let monitor = seed >> 16 & 1 == 1;
@@ -38,7 +54,7 @@ pub fn sheet(seed: u64) -> Vec<u8> {
         1 => before + draw.from(1, 5),
         _ => before + 40,
     };
-    draft.text()
+    draft
 }
 
 /// A monitor package with wide data and code in block `block`.
