@@ -213,5 +213,9 @@ pub fn reference(text: &str) -> Reference {
 
 /// Whether nothing is held of a code, given by its first seven bits.
 pub fn empty(gh: u16) -> bool {
-    (0..512).all(|ijk| find(gh << 9 | ijk).is_none())
+    let of_code = |text: &str| {
+        let mut pairs = text.bytes().zip(split(gh << 9)).take(3);
+        pairs.all(|(letter, digit)| digits(letter).contains(&digit))
+    };
+    !CODES.iter().any(|code| of_code(code.text))
 }

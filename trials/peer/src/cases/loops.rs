@@ -1,7 +1,7 @@
 //! Two programs that loop for ever on one memory, from packages 0 and 1.
 //!
 //! Each fills V, B, T and VM, then goes round: drawn instructions, mostly a
-//! dump of those registers, else two stores, a branch back. No step exchanges or stops, so a
+//! dump of those registers, else two stores, a count in memory, a branch back. No step exchanges or stops, so a
 //! pair run goes on as long as its schedule; a run takes the first alone.
 //! Data fields are the same, overlap, touch or lie apart; code is in neither.
 
@@ -80,8 +80,17 @@ fn looping(draw: &mut Draw, package: &Package) -> Program {
         program.two(0o130, draw.digit(), draw.below(0x100) as u32);
         program.two(0o110, draw.digit(), draw.below(0x100) as u32);
     }
+    count(&mut program, draw.below(0x100) as u32);
     program.branch(0o006, start);
     program
+}
+
+/// Adds 1 to a word of memory, so that no loop comes to store the same again.
+fn count(program: &mut Program, word: u32) {
+    program.two(0o120, 7, word);
+    program.one(0o042, 6, 7, 7);
+    program.one(0o060, 7, 7, 6);
+    program.two(0o130, 7, word);
 }
 
 /// Sums of vectors stored one after another through the whole field, so that

@@ -17,6 +17,7 @@ mod rings;
 mod sweep;
 
 pub use cal_damaged::{LATER, REFUSED};
+pub use draw::Draw;
 pub use sweep::words as sweep_words;
 
 pub struct Kind {

@@ -4,6 +4,18 @@
 use pulxarrid::{assemble, assemble_into, list, list_into, run, start};
 use pulxarrid::{BadLine, NoRoom, NotAssembled, LINE_MOST};
 
+beside::tests!(
+    lines_with_known_answers,
+    nothing_is_nothing,
+    rooms_of_every_size,
+    a_bad_line_comes_before_too_little_room,
+    an_assembled_program_runs,
+    every_first_parcel_comes_back,
+    lines_with_one_byte_changed,
+    generated_texts,
+    generated_parcels,
+);
+
 /// What a room holds before a call.
 const FOUND: u16 = 0o123_456;
 const FOUND_BYTE: u8 = 0xEE;
@@ -86,7 +98,6 @@ refused                 data=001430
 refused                 pass | A1  S2
 ";
 
-#[test]
 fn lines_with_known_answers() {
     let mut tried = 0;
     for row in LINES.lines().skip(1) {
@@ -126,7 +137,6 @@ fn lines_with_known_answers() {
     assert_eq!(other, Ok(vec![0o006400, 0o001000]));
 }
 
-#[test]
 fn nothing_is_nothing() {
     assert_eq!(assemble(""), Ok(vec![]));
     assert_eq!(list(&[]), "");
@@ -145,7 +155,6 @@ fn some() -> (Vec<u16>, String) {
     (parcels, text.to_string())
 }
 
-#[test]
 fn rooms_of_every_size() {
     let (parcels, text) = some();
     for size in 0..parcels.len() + 20 {
@@ -185,7 +194,6 @@ fn rooms_of_every_size() {
     assert_eq!(small, Err(NotAssembled::NoRoom(NoRoom)));
 }
 
-#[test]
 fn a_bad_line_comes_before_too_little_room() {
     let (_, text) = some();
     let mut room = [FOUND; 2];
@@ -201,7 +209,6 @@ fn a_bad_line_comes_before_too_little_room() {
     assert_eq!(why.to_string(), "there is more than the lent room holds");
 }
 
-#[test]
 fn an_assembled_program_runs() {
     let text = "022 A1 5\n022 A2 7\nA3 A1+A2\n0,A0 A3\ndata=000001\n";
     let parcels = assemble(text).unwrap();
@@ -230,7 +237,6 @@ fn instructions() -> impl Iterator<Item = Vec<u16>> {
     })
 }
 
-#[test]
 fn every_first_parcel_comes_back() {
     for parcels in instructions() {
         let text = list(&parcels);
@@ -249,7 +255,6 @@ fn every_first_parcel_comes_back() {
 /// Bytes that lines have, and a few that they do not.
 const BYTES: &[u8] = b"\n 0123456789ABCDEFIJLMNPQRSTVXZ,+-*<>!&#\\=adt\0\xFF";
 
-#[test]
 fn lines_with_one_byte_changed() {
     let mut accepted = 0;
     let mut draw = 0_usize;
@@ -281,7 +286,6 @@ fn lines_with_one_byte_changed() {
     assert!(accepted > 100_000, "{accepted}");
 }
 
-#[test]
 fn generated_texts() {
     let (mut good, mut refused) = (0, 0);
     for kind in ["cal", "cal-damaged"] {
@@ -301,7 +305,6 @@ fn generated_texts() {
     assert!(good > 600 && refused > 400, "{good} {refused}");
 }
 
-#[test]
 fn generated_parcels() {
     for seed in 0..400 {
         let text = peer::cases::text("octal", seed).expect("a kind of text");
