@@ -78,6 +78,8 @@ status-lt : (fr : Frame) (r : Registers) → FrameOk fr → fr .processor < 2 �
 unfolding statusOf
 status-lt fr r f n c =
     let h : pick (eqb (fr .cln) 0) 0 (2 ^ 63) < 2 ^ 63 + 1 = pick-lt (eqb (fr .cln) 0) (omega arith) (omega arith) in
+    let own : pick (eqb (fr .mm) 0) 0 (fr .processor * 2 ^ 40 + fr .cln * 2 ^ 32) < 2 ^ 41 =
+        pick-lt (eqb (fr .mm) 0) (omega arith) (omega (arith, f)) in
     omega (arith, f, c)
 
 work-lists : (fr : Frame) (r : Registers) (p : ℕ) (sh : Shared) → FrameOk fr → fr .processor < 2 → ControlOk r → ListsOk r → below (2 ^ 64) (sh .mem) ≡ true

@@ -21,19 +21,27 @@ pub fn from_a(r: &mut [u64], x: u64) -> Work
     }
 }
 
+// The processor's number and its cluster, as the status word has them: in monitor mode alone.
+fn own(mm: u64, processor: u64, cln: u64) -> u64
+    requires { ⌜ (processor < 2) × (cln < 4) ⌝ }
+    ensures { λ y. ⌜ y ≡ pick (eqb mm 0) 0 (processor * 2 ^ 40 + cln * 2 ^ 32) ⌝ }
+    ensures { λ y. ⌜ y < 2 ^ 41 ⌝ }
+{
+    if mm == 0 { 0 } else { processor * (1 << 40) + cln * (1 << 32) }
+}
+
 // The status word from its fields; the highest bit is set where the cluster is not 0.
-fn status_of(ps: u64, fps: u64, ifp: u64, ior: u64, bdm: u64, processor: u64, cln: u64) -> u64
-    requires { ⌜ (ps < 2) × (fps < 2) × (ifp < 2) × (ior < 2) × (bdm < 2) × (processor < 2) × (cln < 4) ⌝ }
+fn status_of(ps: u64, fps: u64, ifp: u64, ior: u64, bdm: u64, cln: u64, own: u64) -> u64
+    requires { ⌜ (ps < 2) × (fps < 2) × (ifp < 2) × (ior < 2) × (bdm < 2) × (cln < 4) × (own < 2 ^ 41) ⌝ }
     ensures { λ y. ⌜ y ≡ pick (eqb cln 0) 0 (2 ^ 63)
-        + ps * 2 ^ 57 + fps * 2 ^ 51 + ifp * 2 ^ 50 + ior * 2 ^ 49 + bdm * 2 ^ 48 + processor * 2 ^ 40 + cln * 2 ^ 32 ⌝ }
+        + ps * 2 ^ 57 + fps * 2 ^ 51 + ifp * 2 ^ 50 + ior * 2 ^ 49 + bdm * 2 ^ 48 + own ⌝ }
 {
     let fields = ps * (1 << 57)
         + fps * (1 << 51)
         + ifp * (1 << 50)
         + ior * (1 << 49)
         + bdm * (1 << 48)
-        + processor * (1 << 40)
-        + cln * (1 << 32);
+        + own;
     if cln == 0 { fields } else { fields + (1 << 63) }
 }
 
@@ -42,15 +50,9 @@ fn status(r: &[u64]) -> u64
     requires { ⌜ FrameOk (frameOf (now r)) × ControlOk (registersOf (now r)) × (frameOf (now r) .processor < 2) ⌝ }
     ensures { λ y. ⌜ y ≡ statusOf (frameOf (now (r .entry))) (registersOf (now (r .entry))) ⌝ }
 {
-    status_of(
-        r[access::PS],
-        r[access::FPS],
-        r[access::IFP],
-        r[access::IOR],
-        r[access::BDM],
-        r[access::PROCESSOR],
-        r[access::CLN],
-    )
+    let cln = r[access::CLN];
+    let own = own(r[access::MM], r[access::PROCESSOR], cln);
+    status_of(r[access::PS], r[access::FPS], r[access::IFP], r[access::IOR], r[access::BDM], cln, own)
 }
 
 // 073i00, 073i01: Si becomes VM, or the status word.

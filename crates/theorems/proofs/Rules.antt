@@ -1,20 +1,24 @@
 -- What a reader of docs/MACHINE.md, 2 to 8, would ask of the rules first, a theorem each. Assumes nothing.
-use Prim.Native.Nat.{ℕ, _+_, _-_, _*_, _^_, _<_}
-use mathlib.Core.Path.{_≡_, ap}
+use Prim.Native.Nat.{ℕ, _+_, _-_, _*_, _/_, _%_, _^_, _<_}
+use mathlib.Core.Path.{_≡_, refl, ap}
+use mathlib.Core.Bool.{Bool, true, false}
 use mathlib.Core.List.{List}
 use native.Mathlib.Nat.{mul-assoc, mul-div-cancel, mul-mod-left, div-eq-of-lt}
 use native.Mathlib.Omega.{arith}
 use lib.ListN.{set}
+use lib.Dec.{eqb}
 use lib.Pow.{pow-pos, low}
 use lib.Count.{leadingZeros, ones-ones}
 use Rattle.machine.specs.declared.Fetched.the-variants.{Parcel}
-use Rattle.machine.specs.Word.{sum24, difference24, product24, shiftRight, shiftLeftPair, shiftRightPair, onesRight, parity, lengthOf}
+use Rattle.machine.specs.Word.{pick, sum24, difference24, product24, shiftRight, shiftLeftPair, shiftRightPair, onesRight, parity, lengthOf}
 use Rattle.machine.specs.Parcel.{gOf, hOf, iOf, jOf, kOf, jkOf, onward}
 use Rattle.machine.specs.State.{Frame, Registers, sharing, user, aj, ak, si, sj, el, ToV, apply, withA, withS, control}
 use Rattle.machine.specs.Memory.{fetchOf}
 use Rattle.machine.specs.Act.{before, act}
 use Rattle.machine.specs.Codes.{codeOf, code002}
-use Rattle.machine.specs.Work.{decoded, Done, done, past, perform, doneWith}
+use Rattle.machine.specs.Work.{decoded, Done, done, past, perform, statusOf, doneWith}
+use Rattle.access.specs.Executed.{FrameOk, ControlOk}
+use Rattle.laws.proofs.Below.{pick-lt}
 
 -- a first parcel by its six octal digits
 abbrev pub octal : ℕ → ℕ → ℕ → ℕ → ℕ → ℕ → ℕ
@@ -134,6 +138,13 @@ module _ (fr : Frame) (r : Registers) (p : ℕ) (mem : List ℕ) (i : ℕ) (is :
       let d = digits 0 5 5 i 0 0 (omega arith) is (omega arith) (omega arith) in
       rw (d .g-is, d .h-is, d .i-is, d .jk-is, div-eq-of-lt l)
 
+  -- 073i01
+  pub status-073i01 : does fr r p mem (octal 0 7 3 i 0 1) ≡ leaves 1 mem (setS r i (statusOf fr r))
+  unfolding codeOf decoded doneWith perform act apply
+  status-073i01 =
+      let d = digits 0 7 3 i 0 1 (omega arith) is (omega arith) (omega arith) in
+      rw (d .g-is, d .h-is, d .j-is, d .k-is, d .i-is)
+
   -- 153iik: where Vi is its own operand, each element is shifted with the one that stood before it, and not with what that became
   pub pairs-153iik : (k : ℕ) → k < 8
       → does fr r p mem (octal 1 5 3 i i k) ≡ leaves 1 mem (apply (ToV i (λ e. shiftRightPair (before (el (r .v) i) e) (el (r .v) i e) (ak r k))) r)
@@ -175,3 +186,36 @@ module _ (fr : Frame) (r : Registers) (p : ℕ) (mem : List ℕ) (k : ℕ) (ks :
   pub length-from-65 : ak r k ≡ 65 → does fr r p mem (octal 0 0 2 0 0 k) ≡ leaves 1 mem (setVL r 1)
   unfolding lengthOf
   length-from-65 e = length-00200k 65 e
+
+-- the highest bit of the status word, as a number of times 2^63
+highest : (b : Bool) → pick b 0 (2 ^ 63) ≡ pick b 0 1 * 2 ^ 63
+highest true = refl
+highest false = refl
+
+module _ (fr : Frame) (r : Registers) where
+  -- the status word in user mode: 2^40 is 0, and so are 2^33 and 2^32
+  pub number-of-user : fr .mm ≡ 0 → statusOf fr r / 2 ^ 40 % 2 ≡ 0
+  unfolding statusOf
+  number-of-user e = rw (e, highest (eqb (fr .cln) 0)) (omega arith)
+
+  pub cluster-of-user : fr .mm ≡ 0 → statusOf fr r / 2 ^ 32 % 4 ≡ 0
+  unfolding statusOf
+  cluster-of-user e = rw (e, highest (eqb (fr .cln) 0)) (omega arith)
+
+  module _ (n : fr .processor < 2) (c : fr .cln < 4) where
+    -- in monitor mode: 2^40 is the processor number, 2^33 and 2^32 are CLN
+    pub number-in-monitor : fr .mm ≡ 1 → statusOf fr r / 2 ^ 40 % 2 ≡ fr .processor
+    unfolding statusOf
+    number-in-monitor e = rw (e, highest (eqb (fr .cln) 0)) (omega (arith, n, c))
+
+    pub cluster-in-monitor : fr .mm ≡ 1 → statusOf fr r / 2 ^ 32 % 4 ≡ fr .cln
+    unfolding statusOf
+    cluster-in-monitor e = rw (e, highest (eqb (fr .cln) 0)) (omega (arith, n, c))
+
+    -- in both modes alike: 2^63 says whether CLN is not 0
+    pub cluster-there : FrameOk fr → ControlOk r → statusOf fr r / 2 ^ 63 ≡ pick (eqb (fr .cln) 0) 0 1
+    unfolding statusOf
+    cluster-there f k =
+        let own : pick (eqb (fr .mm) 0) 0 (fr .processor * 2 ^ 40 + fr .cln * 2 ^ 32) < 2 ^ 41 =
+            pick-lt (eqb (fr .mm) 0) (omega arith) (omega (arith, n, c)) in
+        rw (highest (eqb (fr .cln) 0)) (omega (arith, f, k, own))
