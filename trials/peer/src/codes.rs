@@ -184,6 +184,11 @@ pub fn vectors(text: &str) -> &'static [Designator] {
     }
 }
 
+/// Whether it does something else in the other mode.
+pub fn by_mode(text: &str) -> bool {
+    matches!(text, "0013j0" | "073i01")
+}
+
 /// Whether it is a branch on A0 or S0.
 pub fn is_branch(text: &str) -> bool {
     text.starts_with("01") && text.contains('u')

@@ -581,15 +581,20 @@ fn s_from_vm(c: &mut Machine, _: &mut [u64], w: u16) -> Flow {
     }
 }
 
+/// Status register SR0. Which processor and which cluster it is, bits 2^40,
+/// 2^33 and 2^32, return 0 if not executed in monitor mode.
 fn status(r: &State) -> u64 {
+    let own = match r.mm {
+        true => u64::from(r.processor) << 40 | u64::from(r.cln) << 32,
+        false => 0,
+    };
     u64::from(r.cln != 0) << 63
         | u64::from(r.ps) << 57
         | u64::from(r.fps) << 51
         | u64::from(r.ifp) << 50
         | u64::from(r.ior) << 49
         | u64::from(r.bdm) << 48
-        | u64::from(r.processor) << 40
-        | u64::from(r.cln) << 32
+        | own
 }
 
 fn s_from_t(c: &mut Machine, _: &mut [u64], w: u16) -> Flow {

@@ -78,6 +78,21 @@ fn masks_and_shifts() {
     assert_eq!(after(state.clone(), 0o056_123, 0).s[1], 0);
 }
 
+/// The page's daggers: bits 2^40, 2^33 and 2^32 are 0 but in monitor mode.
+#[test]
+fn the_status_word_in_both_modes() {
+    let (mut state, _) = ready();
+    (state.processor, state.cln, state.ps) = (1, 3, true);
+    (state.ior, state.fps, state.ifp, state.bdm) = (true, true, true, true);
+    let all = 1 << 63 | 1 << 57 | 0b1111 << 48;
+    assert_eq!(
+        after(state.clone(), 0o073_101, 0).s[1],
+        all | 1 << 40 | 3 << 32
+    );
+    state.mm = false;
+    assert_eq!(after(state, 0o073_101, 0).s[1], all);
+}
+
 #[test]
 fn vector_length_from_0_and_65() {
     for (number, length) in [(0, 64), (65, 1), (64, 64), (127, 63)] {

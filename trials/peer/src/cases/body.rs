@@ -4,7 +4,7 @@
 use super::build::{Package, Program, MONITOR};
 use super::draw::Draw;
 use super::parts::{aim, stride};
-use crate::codes::{digits, Code, Mode, CODES};
+use crate::codes::{Code, Mode, CODES};
 
 pub struct Body<'a> {
     pub draw: &'a mut Draw,
@@ -71,12 +71,7 @@ impl Body<'_> {
 
     /// Emits one instruction and, before it, what gives it good operands.
     fn instruction(&mut self, code: Code, starts: &[u32]) -> Option<Skip> {
-        let mut parcel = 0;
-        for letter in code.text.bytes().take(6) {
-            let range = digits(letter);
-            let (low, high) = (u64::from(*range.start()), u64::from(*range.end()));
-            parcel = parcel << 3 | self.draw.from(low, high) as u16;
-        }
+        let mut parcel = self.draw.parcel(code.text);
         let mut second = self.draw.next() as u16;
         match parcel >> 9 {
             0o006..=0o017 if parcel & 0o400 == 0 => return self.branch(parcel, second, starts),

@@ -1,5 +1,7 @@
 //! Numbers drawn from a seed by splitmix64, and the values that find faults.
 
+use crate::codes::digits;
+
 pub struct Draw {
     state: u64,
 }
@@ -43,6 +45,21 @@ impl Draw {
 
     pub fn digit(&mut self) -> u16 {
         self.below(8) as u16
+    }
+
+    /// A first parcel that fits a pattern.
+    pub fn parcel(&mut self, text: &str) -> u16 {
+        self.parcel_but(text, 6)
+    }
+
+    /// A parcel that fits a pattern, but for a place where it has any digit.
+    pub fn parcel_but(&mut self, text: &str, any: usize) -> u16 {
+        let letters = text.bytes().take(6).enumerate();
+        letters.fold(0, |parcel, (place, letter)| {
+            let range = if place == any { 0..=7 } else { digits(letter) };
+            let (low, high) = (u64::from(*range.start()), u64::from(*range.end()));
+            parcel << 3 | self.from(low, high) as u16
+        })
     }
 
     /// A value for an A register: edges of every width that an instruction

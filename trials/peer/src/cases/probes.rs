@@ -15,7 +15,7 @@
 use super::build::{Draft, Package, Program, IOR, MONITOR};
 use super::draw::Draw;
 use super::parts::{fill, fold, WIDE};
-use crate::codes::{digits, empty, find, held, is_vector, reference, shift, specials, vectors};
+use crate::codes::{empty, find, held, is_vector, reference, shift, specials, vectors};
 use crate::codes::{Code, Designator, Mode, Reference, Shift, CODES};
 use crate::machine::{run, start};
 
@@ -28,6 +28,10 @@ const DENSE: u32 = 30;
 /// Where results go, from the base of the data field on.
 const OUT: u32 = 0x300;
 const PROBES: u32 = 36;
+/// Codes of counts, sums and logic.
+const PLAIN: [&str; 13] = [
+    "026", "027", "030", "031", "032", "044", "045", "046", "047", "050", "051", "060", "061",
+];
 /// The register that results of vector work are summed in.
 const SUM: u16 = 7;
 
@@ -114,16 +118,6 @@ impl Probes<'_> {
         self.draw.pick(&passed)
     }
 
-    /// A first parcel of a pattern.
-    fn parcel(&mut self, code: Code) -> u16 {
-        let letters = code.text.bytes().take(6);
-        letters.fold(0, |parcel, letter| {
-            let range = digits(letter);
-            let (low, high) = (u64::from(*range.start()), u64::from(*range.end()));
-            parcel << 3 | self.draw.from(low, high) as u16
-        })
-    }
-
     /// Sets VL by way of an A register.
     fn length(&mut self, length: u32, by: u16) {
         self.program.set_a(by, length);
@@ -141,7 +135,7 @@ impl Probes<'_> {
     fn zero(&mut self) {
         let code = self.code(|code| !specials(code.text).is_empty());
         let operand = self.draw.pick(specials(code.text));
-        let parcel = self.parcel(code) & !(7 << operand.0.shift());
+        let parcel = self.draw.parcel(code.text) & !(7 << operand.0.shift());
         self.dense(0);
         let (i, j) = (parcel >> 6 & 7, parcel >> 3 & 7);
         if i != 0 {
@@ -159,12 +153,8 @@ impl Probes<'_> {
 
     /// A count, a sum or logic, of numbers of few ones or few zeros.
     fn plain(&mut self) {
-        let codes = ["026", "027", "030", "031", "032"];
-        let more = ["044", "045", "046", "047", "050", "051", "060", "061"];
-        let wanted =
-            |code: &Code| codes.contains(&&code.text[..3]) || more.contains(&&code.text[..3]);
-        let code = self.code(wanted);
-        let parcel = self.parcel(code);
+        let code = self.code(|code| PLAIN.contains(&&code.text[..3]));
+        let parcel = self.draw.parcel(code.text);
         for register in [parcel >> 3 & 7, parcel & 7] {
             let ones = self.draw.pick(&[0, 0, 1, 2, 62, 63]);
             self.program.one(
@@ -182,7 +172,7 @@ impl Probes<'_> {
 
     fn shifted(&mut self) {
         let code = self.code(|code| shift(code.text).is_some());
-        let mut parcel = self.parcel(code);
+        let mut parcel = self.draw.parcel(code.text);
         if shift(code.text) == Some(Shift::Register(64)) || code.text.starts_with("15") {
             self.length(64, 6);
         } else {
@@ -205,7 +195,7 @@ impl Probes<'_> {
     /// Vector work, mostly into one of its operands; references inside.
     fn vector(&mut self) {
         let code = self.code(|code| is_vector(code.text));
-        let mut parcel = self.parcel(code);
+        let mut parcel = self.draw.parcel(code.text);
         let (i, j, k) = (parcel >> 6 & 7, parcel >> 3 & 7, parcel & 7);
         if reference(code.text) != Reference::No {
             self.program.set_a(k, self.draw.below(4) as u32);
@@ -258,7 +248,7 @@ impl Probes<'_> {
     /// A word outside, or a row that passes an end of the field.
     fn outside(&mut self) {
         let code = self.code(|code| reference(code.text) != Reference::No);
-        let parcel = self.parcel(code);
+        let parcel = self.draw.parcel(code.text);
         let base = self.field.0 * BLOCK;
         let end = self
             .draw
@@ -401,16 +391,6 @@ fn last(program: &mut Program, draw: &mut Draw, (base, number, monitor): (u32, u
 /// A parcel that fits a pattern, but for a place, and passes a test; else one
 /// that is not held.
 fn tried(draw: &mut Draw, (text, place): (&str, usize), test: impl Fn(u16) -> bool) -> u16 {
-    let mut tries = (0..100).map(|_| fitting(draw, text, place));
+    let mut tries = (0..100).map(|_| draw.parcel_but(text, place));
     tries.find(|parcel| test(*parcel)).unwrap_or(0o000_001)
-}
-
-/// A parcel that fits a pattern, but for a place where it has any digit.
-fn fitting(draw: &mut Draw, text: &str, any: usize) -> u16 {
-    let letters = text.bytes().take(6).enumerate();
-    letters.fold(0, |parcel, (place, letter)| {
-        let range = if place == any { 0..=7 } else { digits(letter) };
-        let (low, high) = (u64::from(*range.start()), u64::from(*range.end()));
-        parcel << 3 | draw.from(low, high) as u16
-    })
 }

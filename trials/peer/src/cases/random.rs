@@ -118,15 +118,12 @@ impl Case {
         self.place(number, &package);
     }
 
-    /// A program of drawn instructions, at the base of its field or leading to
-    /// a tail at the field's end.
-    fn worker(&mut self, number: u32, alone: bool) {
-        let last = number > 0 && self.draw.often(22);
-        let base = if last { 0xFE0 } else { CODE + number * ROOM };
-        let blocks = if last { 1 } else { ROOM / BLOCK };
+    /// A package whose instruction field begins at word `base`, at the end of
+    /// memory or not.
+    fn placed(&mut self, number: u32, base: u32, last: bool) -> Package {
         let mut package = Package::draw(&mut self.draw);
         package.code.0 = base / BLOCK;
-        package.code.1 = base / BLOCK + blocks;
+        package.code.1 = base / BLOCK + ROOM / BLOCK;
         if last {
             package.code.1 = self.draw.pick(&[128, 129, 129, 200, 0x1_FFFF]);
         }
@@ -135,6 +132,16 @@ impl Case {
         } else if number > 0 && self.draw.often(4) {
             package.p |= 1 << self.draw.from(12, 23);
         }
+        package
+    }
+
+    /// A program of drawn instructions, at the base of its field or leading to
+    /// a tail at the field's end.
+    fn worker(&mut self, number: u32, alone: bool) {
+        let last = number > 0 && self.draw.often(22);
+        let base = if last { 0xFE0 } else { CODE + number * ROOM };
+        let blocks = if last { 1 } else { ROOM / BLOCK };
+        let mut package = self.placed(number, base, last);
         package.data = if alone {
             WIDE
         } else {

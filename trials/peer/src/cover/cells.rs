@@ -1,6 +1,8 @@
 //! The cells: what stored sheets must show, each with its name.
 
-use crate::codes::{digits, empty, find, is_branch, is_vector, reference, shift, specials, split};
+use crate::codes::{
+    by_mode, digits, empty, find, is_branch, is_vector, reference, shift, specials, split,
+};
 use crate::codes::{vectors, Designator, Mode, Operand, Reference, Shift, CODES};
 use std::fmt;
 
@@ -9,6 +11,8 @@ use std::fmt;
 pub enum Cell {
     /// A pattern in user or in monitor mode.
     Code(usize, bool),
+    /// One that does something else in the other mode.
+    Mode(usize, bool),
     /// A digit at a place of a pattern.
     Digit(usize, usize, u16),
     /// A designator that is zero, where the true register answers otherwise.
@@ -144,6 +148,9 @@ fn of_code(n: usize, cells: &mut Vec<Cell>) {
     cells.extend(specials(code.text).iter().map(|at| Cell::Zero(n, *at)));
     cells.extend(counts(code.text).iter().map(|c| Cell::Count(n, *c)));
     cells.extend(vectors(code.text).iter().map(|at| Cell::Same(n, *at)));
+    if by_mode(code.text) {
+        cells.extend([false, true].map(|monitor| Cell::Mode(n, monitor)));
+    }
     if is_branch(code.text) {
         cells.extend([true, false].map(|taken| Cell::Branch(n, taken)));
     }
@@ -184,43 +191,58 @@ fn all_neighbours() -> Vec<Cell> {
     cells
 }
 
-impl fmt::Display for Cell {
-    fn fmt(&self, out: &mut fmt::Formatter) -> fmt::Result {
-        let mode = |monitor| if monitor { "monitor mode" } else { "user mode" };
-        let text = |n: usize| CODES[n].text;
-        match *self {
-            Cell::Code(n, monitor) => write!(out, "{} in {}", text(n), mode(monitor)),
-            Cell::Digit(n, place, digit) => {
-                write!(out, "{} with {digit} at place {place}", text(n))
+impl Cell {
+    /// The pattern that it is of, if it is of one, and what is to be seen of it.
+    fn of_pattern(self) -> Option<(usize, String)> {
+        Some(match self {
+            Cell::Code(n, monitor) => (n, format!("in {}", mode(monitor))),
+            Cell::Mode(n, monitor) => {
+                let [mode, other] = [monitor, !monitor].map(mode);
+                (n, format!("in {mode}, not as in {other}"))
             }
-            Cell::Zero(n, Operand(at, file)) => {
-                let true_one = format!("{file:?}0");
-                write!(out, "{} with {at:?} 0, not {true_one}", text(n))
-            }
-            Cell::Count(n, WIDE) => write!(out, "{} by a count over 128", text(n)),
-            Cell::Count(n, count) => write!(out, "{} by {count}", text(n)),
-            Cell::Length(n, length) => write!(out, "{} with VL {length}", text(n)),
-            Cell::Branch(n, true) => write!(out, "{} taken", text(n)),
-            Cell::Branch(n, false) => write!(out, "{} not taken", text(n)),
-            Cell::AnyLength(length) => write!(out, "vector work with VL {length}"),
-            Cell::Same(n, at) => write!(out, "{} with I the same as {at:?}", text(n)),
+            Cell::Digit(n, place, digit) => (n, format!("with {digit} at place {place}")),
+            Cell::Zero(n, Operand(at, file)) => (n, format!("with {at:?} 0, not {file:?}0")),
+            Cell::Count(n, WIDE) => (n, "by a count over 128".to_string()),
+            Cell::Count(n, count) => (n, format!("by {count}")),
+            Cell::Length(n, length) => (n, format!("with VL {length}")),
+            Cell::Branch(n, true) => (n, "taken".to_string()),
+            Cell::Branch(n, false) => (n, "not taken".to_string()),
+            Cell::Same(n, at) => (n, format!("with I the same as {at:?}")),
             Cell::Outside(n, rule, cause) => {
-                write!(
-                    out,
-                    "{} outside, {}, {}",
-                    text(n),
-                    rule.name(),
-                    cause.name()
-                )
+                (n, format!("outside, {}, {}", rule.name(), cause.name()))
             }
             Cell::Partly(n, first) => {
                 let which = if first { "first" } else { "last" };
-                let text = text(n);
-                write!(out, "{text} with the {which} words outside, exchanged")
+                (n, format!("with the {which} words outside, exchanged"))
             }
-            Cell::Package(n, false) => write!(out, "{} into the package taken next", text(n)),
-            Cell::Package(n, true) => write!(out, "{} into the package it takes", text(n)),
-            Cell::Next(n) => write!(out, "{} into the next parcel", text(n)),
+            Cell::Package(n, false) => (n, "into the package taken next".to_string()),
+            Cell::Package(n, true) => (n, "into the package it takes".to_string()),
+            Cell::Next(n) => (n, "into the next parcel".to_string()),
+            Cell::Neighbour(n, place) => {
+                let letter = [b'i', b'j', b'k'][place.min(K) - I] as char;
+                (n, format!("with {letter} not held"))
+            }
+            Cell::InMonitor(n) => (n, "in monitor mode, not held".to_string()),
+            _ => return None,
+        })
+    }
+}
+
+fn mode(monitor: bool) -> &'static str {
+    if monitor {
+        "monitor mode"
+    } else {
+        "user mode"
+    }
+}
+
+impl fmt::Display for Cell {
+    fn fmt(&self, out: &mut fmt::Formatter) -> fmt::Result {
+        if let Some((n, what)) = self.of_pattern() {
+            return write!(out, "{} {what}", CODES[n].text);
+        }
+        match *self {
+            Cell::AnyLength(length) => write!(out, "vector work with VL {length}"),
             Cell::Fetch(second, monitor, cause) => {
                 let which = if second { "second" } else { "first" };
                 let (mode, cause) = (mode(monitor), cause.name());
@@ -229,11 +251,7 @@ impl fmt::Display for Cell {
             Cell::Flags(flags) => write!(out, "exchange with flags {flags}"),
             Cell::End(end) => write!(out, "end by {end:?}"),
             Cell::NotHeld(gh) => write!(out, "{gh:03o}, of which nothing is held"),
-            Cell::Neighbour(n, place) => {
-                let letter = [b'i', b'j', b'k'][place.min(K) - I] as char;
-                write!(out, "{} with {letter} not held", text(n))
-            }
-            Cell::InMonitor(n) => write!(out, "{} in monitor mode, not held", text(n)),
+            _ => Ok(()),
         }
     }
 }

@@ -23,6 +23,8 @@ pub enum Rival {
     Parcel(u16),
     /// Another VL while the instruction is executed.
     Length(u32),
+    /// The other mode while the instruction is executed.
+    OtherMode,
     /// P goes here, and nothing else is done.
     Branch(u32),
     /// An exchange for operand range follows, or none, against the rule.
@@ -64,6 +66,12 @@ impl Scene {
                 let answer = self.step();
                 self.state.vl = true_one;
                 (answer == Answer::Stepped).then_some(answer)?
+            }
+            Rival::OtherMode => {
+                self.state.mm = !self.state.mm;
+                let answer = self.step();
+                self.state.mm = !self.state.mm;
+                answer
             }
             Rival::Branch(to) => {
                 self.state.p = *to;

@@ -3,7 +3,9 @@
 
 use super::cells::{neighbours, Cause, Cell, Rule, WIDE};
 use super::rivals::{Rival, Scene};
-use crate::codes::{empty, find, held, is_branch, is_vector, reference, shift, specials, split};
+use crate::codes::{
+    by_mode, empty, find, held, is_branch, is_vector, reference, shift, specials, split,
+};
 use crate::codes::{vectors, Designator, Reference, Shift, CODES};
 use crate::machine::{place, Answer, Place};
 use crate::state::{State, MASK24};
@@ -97,6 +99,9 @@ fn instruction(scene: &Scene, code: usize, first: u16, second: u16) -> Vec<Sight
         }
     }
     sights.extend(shifted(state, code, first));
+    if by_mode(text) {
+        sights.push((Cell::Mode(code, state.mm), vec![Rival::OtherMode]));
+    }
     if is_branch(text) {
         sights.extend(branching(scene, code, first, second));
     }
