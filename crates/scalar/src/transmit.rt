@@ -45,6 +45,7 @@ fn status_of(ps: u64, fps: u64, ifp: u64, ior: u64, bdm: u64, cln: u64, own: u64
     if cln == 0 { fields } else { fields + (1 << 63) }
 }
 
+// The status word of a processor.
 fn status(r: &[u64]) -> u64
     requires { ⌜ length (now r) ≡ 672 ⌝ }
     requires { ⌜ FrameOk (frameOf (now r)) × ControlOk (registersOf (now r)) × (frameOf (now r) .processor < 2) ⌝ }
