@@ -216,6 +216,12 @@ pub fn reference(text: &str) -> Reference {
     }
 }
 
+/// Whether an instruction stores words.
+pub fn stores(text: &str) -> bool {
+    let kind = reference(text);
+    matches!(kind, Reference::Row(true) | Reference::Word(true))
+}
+
 /// Whether nothing is held of a code, given by its first seven bits.
 pub fn empty(gh: u16) -> bool {
     let of_code = |text: &str| {

@@ -4,7 +4,7 @@
 use super::build::{Package, Program, MONITOR};
 use super::draw::Draw;
 use super::parts::{aim, stride};
-use crate::codes::{Code, Mode, CODES};
+use crate::codes::{stores, Code, Mode, CODES};
 
 pub struct Body<'a> {
     pub draw: &'a mut Draw,
@@ -12,9 +12,18 @@ pub struct Body<'a> {
     pub package: &'a Package,
     /// The packages that 0013j0 mostly names.
     pub slots: &'a [u32],
-    /// Whether the body always comes to its end: no exit and no exchange, no
-    /// stop, and branches to places further on alone.
-    pub endless: bool,
+    pub manner: Manner,
+}
+
+/// What instructions a body may have.
+#[derive(Clone, Copy, PartialEq, Eq)]
+pub enum Manner {
+    Any,
+    /// It always comes to its end: no exit, no setting of IOR, no stop, and
+    /// branches to places further on alone.
+    Endless,
+    /// Neither does it store.
+    Quiet,
 }
 
 /// A conditional branch whose target is still to be found: its place among the
@@ -33,7 +42,7 @@ impl Body<'_> {
         let mut skips = Vec::new();
         while starts.len() < wanted && self.program.parcels.len() < most {
             starts.push(self.program.here());
-            if !self.endless && self.draw.below(300) == 0 {
+            if self.manner == Manner::Any && self.draw.below(300) == 0 {
                 self.program.parcels.push(self.draw.next() as u16);
                 continue;
             }
@@ -56,11 +65,12 @@ impl Body<'_> {
         loop {
             let code = self.draw.pick(CODES);
             let rare = match code.text {
-                "000000" | "004000" | "002300" if self.endless => 0,
+                "000000" | "004000" | "002300" if self.manner != Manner::Any => 0,
+                text if self.manner == Manner::Quiet && stores(text) => 0,
                 "000000" => 15,
                 "004000" => 25,
                 "006ujkm" | "007ujkm" | "0050jk" => 70,
-                _ if code.mode == Mode::User && monitor => u64::from(!self.endless),
+                _ if code.mode == Mode::User && monitor => u64::from(self.manner == Manner::Any),
                 _ => 100,
             };
             if self.draw.often(rare) {
@@ -75,7 +85,7 @@ impl Body<'_> {
         let mut second = self.draw.next() as u16;
         match parcel >> 9 {
             0o006..=0o017 if parcel & 0o400 == 0 => return self.branch(parcel, second, starts),
-            0o005 if self.endless || self.draw.often(85) => self.link(parcel),
+            0o005 if self.manner != Manner::Any || self.draw.often(85) => self.link(parcel),
             0o100..=0o137 => (parcel, second) = self.reference(parcel, second),
             _ => self.operands(parcel),
         }
@@ -101,12 +111,12 @@ impl Body<'_> {
             }
             _ => {}
         }
-        if !self.endless && self.draw.often(40) {
+        if self.manner == Manner::Any && self.draw.often(40) {
             self.program.parcels.push(parcel);
             self.program.parcels.push(second);
             return None;
         }
-        if !self.endless && self.draw.often(8) {
+        if self.manner == Manner::Any && self.draw.often(8) {
             // Back, or to a place that only a cut address would be.
             let high = 1 << self.draw.from(10, 23);
             let high = self.draw.pick(&[0, 0, high, 1 << 23]);

@@ -5,7 +5,7 @@
 //! pair run goes on as long as its schedule; a run takes the first alone.
 //! Data fields are the same, overlap, touch or lie apart; code is in neither.
 
-use super::body::Body;
+use super::body::{Body, Manner};
 use super::build::{Draft, Package, Program, IOR, MONITOR};
 use super::draw::Draw;
 use super::parts::{dump, fill};
@@ -71,7 +71,7 @@ fn looping(draw: &mut Draw, package: &Package) -> Program {
         program: &mut program,
         package,
         slots: &[0, 1],
-        endless: true,
+        manner: Manner::Endless,
     };
     body.write(360);
     if draw.often(90) {

@@ -5,7 +5,7 @@
 //! shape; the last one mostly writes the hidden registers to memory. XA joins
 //! them in a row, so any cause of an exchange goes on to the next program.
 
-use super::body::Body;
+use super::body::{Body, Manner};
 use super::build::{Draft, Package, Program, MONITOR};
 use super::draw::Draw;
 use super::parts::{data_field, dump, fill, WIDE};
@@ -159,7 +159,7 @@ impl Case {
             program: &mut program,
             package: &package,
             slots: &self.slots,
-            endless: false,
+            manner: Manner::Any,
         };
         body.write(most);
         if alone && self.draw.often(80) {

@@ -6,7 +6,7 @@
 //! an instruction that is partly outside and so makes that exchange itself,
 //! and into the parcel that comes next. All loop.
 
-use super::body::Body;
+use super::body::{Body, Manner};
 use super::build::{Draft, Package, Program, IOR, MONITOR};
 use super::draw::Draw;
 use super::parts::{data_field, dump};
@@ -17,7 +17,7 @@ const ROOM: u32 = 0x60;
 const BLOCK: u32 = 32;
 const DATA: u32 = 0x400;
 const DATA_WORDS: u32 = 100;
-/// Words that programs take to store them into code.
+/// Words that programs take to store them into code and packages.
 const POOL: u32 = DATA + DATA_WORDS;
 /// The whole memory as a field.
 const ALL: (u32, u32) = (0, 128);
@@ -29,6 +29,7 @@ pub fn sheet(seed: u64) -> Vec<u8> {
         draw: Draw::new(0x4149, seed),
         draft: Draft::default(),
         slots: Vec::new(),
+        named: 0,
         pool: POOL,
     };
     ring.write();
@@ -40,6 +41,8 @@ struct Ring {
     draft: Draft,
     /// The package of each program.
     slots: Vec<u32>,
+    /// The package that a monitor named last.
+    named: u32,
     /// Where the next word for code goes.
     pool: u32,
 }
@@ -67,7 +70,7 @@ impl Ring {
         package.code = (base / BLOCK, (base + ROOM) / BLOCK);
         package.xa = self.draw.pick(&self.slots);
         package.modes |= IOR;
-        if number == 0 || self.draw.often(25) {
+        if number == 0 || self.draw.often(40) {
             package.modes |= MONITOR;
         } else {
             package.modes &= !MONITOR;
@@ -75,7 +78,7 @@ impl Ring {
         package.data = match self.draw.below(8) {
             0 => data_field(&mut self.draw),
             // The package that is taken stands at the limit.
-            1..=3 if package.xa % 2 == 1 && package.xa < 16 => (0, (package.xa + 1) / 2),
+            1..=5 if package.xa % 2 == 1 && package.xa < 16 => (0, (package.xa + 1) / 2),
             _ => ALL,
         };
         let mut program = Program::new(0);
@@ -95,12 +98,19 @@ impl Ring {
     /// Some work, and mostly an exchange after it.
     fn part(&mut self, program: &mut Program, package: &Package, base: u32) {
         let most = program.parcels.len() + 30;
+        // A store that is drawn may go anywhere; it is to spare code and packages.
+        let apart = package.data.0 * BLOCK >= DATA;
+        let manner = if apart {
+            Manner::Endless
+        } else {
+            Manner::Quiet
+        };
         let mut body = Body {
             draw: &mut self.draw,
             program,
             package,
             slots: &self.slots,
-            endless: true,
+            manner,
         };
         body.write(most);
         if package.data == ALL && self.draw.often(60) {
@@ -108,7 +118,10 @@ impl Ring {
         }
         let mut next = package.xa;
         if package.modes & MONITOR != 0 && self.draw.often(90) {
-            next = self.draw.pick(&self.slots);
+            while next == self.named {
+                next = self.draw.pick(&self.slots);
+            }
+            self.named = next;
             program.set_a(3, next << 4 | self.draw.below(16) as u32);
             program.one(0o001, 3, 3, 0);
         }
@@ -128,7 +141,7 @@ impl Ring {
     fn into_package(&mut self, program: &mut Program, slot: u32) {
         let [a, s] = [6, 8].map(|word| slot * 16 + word);
         let count = self.draw.from(1, 8) as u32;
-        match self.draw.below(5) {
+        match self.draw.below(8) {
             0 => program.two(0o110, self.draw.digit(), a + self.draw.below(2) as u32),
             1 => program.two(0o130, self.draw.digit(), s + self.draw.below(8) as u32),
             2 => {
@@ -139,11 +152,25 @@ impl Ring {
                 program.set_a(0, s);
                 self.block(program, 0o037, count);
             }
-            _ => {
+            4 => {
                 program.set_a(0, s);
                 self.vector(program, 0o177, count, 1);
             }
+            _ => {
+                // Another XA for the program that comes.
+                let xa = u64::from(self.draw.pick(&self.slots));
+                let word = xa << 40 | self.draw.below(128) << 33 | self.draw.below(1 << 24);
+                program.two(0o120, 1, self.kept(word));
+                program.two(0o130, 1, slot * 16 + 3);
+            }
         }
+    }
+
+    /// The place of a word in the pool.
+    fn kept(&mut self, word: u64) -> u32 {
+        self.draft.words.insert(self.pool, word);
+        self.pool += 1;
+        self.pool - 1
     }
 
     /// Moves words at the end of a package, and some that are over the limit
@@ -152,13 +179,13 @@ impl Ring {
         let inside = self.draw.from(1, 8) as u32;
         let count = inside + self.draw.from(1, 30) as u32;
         program.set_a(0, slot * 16 + 16 - inside);
-        match self.draw.below(8) {
+        match self.draw.below(10) {
             0 => self.block(program, 0o034, count),
             1 | 2 => self.block(program, 0o035, count),
             3 => self.block(program, 0o036, count),
-            4 => self.block(program, 0o037, count),
-            5 => self.vector(program, 0o176, count, 1),
-            6 => self.vector(program, 0o177, count, 1),
+            4 | 5 => self.block(program, 0o037, count),
+            6 => self.vector(program, 0o176, count, 1),
+            7 | 8 => self.vector(program, 0o177, count, 1),
             _ => {
                 program.set_a(0, slot * 16 + 16 + 8);
                 self.vector(program, 0o177, 16, 0xFF_FFFF);
@@ -196,8 +223,7 @@ impl Ring {
     fn patch(&mut self, program: &mut Program, base: u32) {
         let gh = self.draw.pick(&[0o035, 0o037, 0o110, 0o130, 0o177]);
         let (old, new) = (self.harmless(), self.harmless());
-        let pool = self.pool;
-        self.pool += 1;
+        let pool = self.kept(0);
         let length = storing(gh, 0, new, pool).len() as u32;
         while (program.here() + length) % 4 != 3 {
             program.parcels.push(PASS);

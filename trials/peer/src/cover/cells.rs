@@ -3,7 +3,7 @@
 use crate::codes::{
     by_mode, digits, empty, find, is_branch, is_vector, reference, shift, specials, split,
 };
-use crate::codes::{vectors, Designator, Mode, Operand, Reference, Shift, CODES};
+use crate::codes::{stores, vectors, Designator, Mode, Operand, Reference, Shift, CODES};
 use std::fmt;
 
 /// A place in a list of what can happen. A pattern is its place in `CODES`.
@@ -173,7 +173,7 @@ fn of_memory(n: usize, cells: &mut Vec<Cell>) {
             cells.push(Cell::Package(n, true));
         }
     }
-    if matches!(kind, Reference::Row(true) | Reference::Word(true)) {
+    if stores(CODES[n].text) {
         cells.extend([Cell::Package(n, false), Cell::Next(n)]);
     }
 }

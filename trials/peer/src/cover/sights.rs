@@ -6,7 +6,7 @@ use super::rivals::{Rival, Scene};
 use crate::codes::{
     by_mode, empty, find, held, is_branch, is_vector, reference, shift, specials, split,
 };
-use crate::codes::{vectors, Designator, Reference, Shift, CODES};
+use crate::codes::{stores, vectors, Designator, Reference, Shift, CODES};
 use crate::machine::{place, Answer, Place};
 use crate::state::{State, MASK24};
 
@@ -209,7 +209,7 @@ fn referring(scene: &Scene, code: usize, first: u16, second: u16) -> Vec<Sight> 
     if rule == Rule::Interrupted && some_inside && !sights.is_empty() {
         let partly = Cell::Partly(code, causes[0].is_some());
         sights.push((partly, vec![Rival::Unmoved]));
-        if stores(code) {
+        if stores(CODES[code].text) {
             sights.push((Cell::Package(code, true), vec![Rival::OwnPackage]));
         }
     }
@@ -249,7 +249,7 @@ impl Stores {
         let Found::Instruction(code, ..) = *found else {
             return;
         };
-        if !stores(code) || answer != Answer::Stepped {
+        if !stores(CODES[code].text) || answer != Answer::Stepped {
             return;
         }
         let packages = before.memory.chunks(16).zip(after.memory.chunks(16));
@@ -267,9 +267,4 @@ impl Stores {
             }
         }
     }
-}
-
-fn stores(code: usize) -> bool {
-    let kind = reference(CODES[code].text);
-    matches!(kind, Reference::Row(true) | Reference::Word(true))
 }
