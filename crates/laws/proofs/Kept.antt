@@ -74,13 +74,15 @@ perform-lists fr r parcels sh (Writes n at val) h k e = (k, below-stores (2 ^ 64
 perform-lists fr r parcels sh LeavesNormally h k e = (k, e)
 perform-lists fr r parcels sh LeavesByError h k e = (k, e)
 
+-- what the status word tells in monitor mode alone
+pub own-lt : (fr : Frame) → fr .processor < 2 → fr .cln < 4 → pick (eqb (fr .mm) 0) 0 (fr .processor * 2 ^ 40 + fr .cln * 2 ^ 32) < 2 ^ 41
+own-lt fr n c = pick-lt (eqb (fr .mm) 0) (omega arith) (omega arith)
+
 status-lt : (fr : Frame) (r : Registers) → FrameOk fr → fr .processor < 2 → ControlOk r → statusOf fr r < 2 ^ 64
 unfolding statusOf
 status-lt fr r f n c =
     let h : pick (eqb (fr .cln) 0) 0 (2 ^ 63) < 2 ^ 63 + 1 = pick-lt (eqb (fr .cln) 0) (omega arith) (omega arith) in
-    let own : pick (eqb (fr .mm) 0) 0 (fr .processor * 2 ^ 40 + fr .cln * 2 ^ 32) < 2 ^ 41 =
-        pick-lt (eqb (fr .mm) 0) (omega arith) (omega (arith, f)) in
-    omega (arith, f, c)
+    omega (arith, f, c, own-lt fr n (f .cln))
 
 work-lists : (fr : Frame) (r : Registers) (p : ℕ) (sh : Shared) → FrameOk fr → fr .processor < 2 → ControlOk r → ListsOk r → below (2 ^ 64) (sh .mem) ≡ true
     → DoneOk (workOf fr r p sh)

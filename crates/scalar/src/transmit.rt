@@ -27,7 +27,8 @@ fn own(mm: u64, processor: u64, cln: u64) -> u64
     ensures { λ y. ⌜ y ≡ pick (eqb mm 0) 0 (processor * 2 ^ 40 + cln * 2 ^ 32) ⌝ }
     ensures { λ y. ⌜ y < 2 ^ 41 ⌝ }
 {
-    if mm == 0 { 0 } else { processor * (1 << 40) + cln * (1 << 32) }
+    let shown = processor * (1 << 40) + cln * (1 << 32);
+    if mm == 0 { 0 } else { shown }
 }
 
 // The status word from its fields; the highest bit is set where the cluster is not 0.
@@ -53,7 +54,15 @@ fn status(r: &[u64]) -> u64
 {
     let cln = r[access::CLN];
     let own = own(r[access::MM], r[access::PROCESSOR], cln);
-    status_of(r[access::PS], r[access::FPS], r[access::IFP], r[access::IOR], r[access::BDM], cln, own)
+    status_of(
+        r[access::PS],
+        r[access::FPS],
+        r[access::IFP],
+        r[access::IOR],
+        r[access::BDM],
+        cln,
+        own,
+    )
 }
 
 // 073i00, 073i01: Si becomes VM, or the status word.

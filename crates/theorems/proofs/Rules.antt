@@ -18,7 +18,7 @@ use Rattle.machine.specs.Act.{before, act}
 use Rattle.machine.specs.Codes.{codeOf, code002}
 use Rattle.machine.specs.Work.{decoded, Done, done, past, perform, statusOf, doneWith}
 use Rattle.access.specs.Executed.{FrameOk, ControlOk}
-use Rattle.laws.proofs.Below.{pick-lt}
+use Rattle.laws.proofs.Kept.{own-lt}
 
 -- a first parcel by its six octal digits
 abbrev pub octal : ℕ → ℕ → ℕ → ℕ → ℕ → ℕ → ℕ
@@ -215,7 +215,4 @@ module _ (fr : Frame) (r : Registers) where
     -- in both modes alike: 2^63 says whether CLN is not 0
     pub cluster-there : FrameOk fr → ControlOk r → statusOf fr r / 2 ^ 63 ≡ pick (eqb (fr .cln) 0) 0 1
     unfolding statusOf
-    cluster-there f k =
-        let own : pick (eqb (fr .mm) 0) 0 (fr .processor * 2 ^ 40 + fr .cln * 2 ^ 32) < 2 ^ 41 =
-            pick-lt (eqb (fr .mm) 0) (omega arith) (omega (arith, n, c)) in
-        rw (highest (eqb (fr .cln) 0)) (omega (arith, f, k, own))
+    cluster-there f k = rw (highest (eqb (fr .cln) 0)) (omega (arith, f, k, own-lt fr n c))

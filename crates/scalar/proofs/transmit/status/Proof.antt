@@ -18,5 +18,5 @@ returns c = rw (← c .before .before .before .before .before .before .own .ensu
 
 pub status-spec : {M : Type 1} → statement M
 status-spec =
-    tie.close (tie.spec (λ c. search needs) (λ c. search needs) (λ c. search needs) own-requires (λ c. search needs) (λ c. search needs) (λ c. search needs) (λ c. search needs) (λ c. search needs)
-    status-of-requires returns)
+    tie.close (tie.spec (λ c. search needs) (λ c. search needs) (λ c. search needs) own-requires
+    (λ c. search needs) (λ c. search needs) (λ c. search needs) (λ c. search needs) (λ c. search needs) status-of-requires returns)
