@@ -7,7 +7,7 @@ pub mod Wrong
 pub mod Calls
 pub mod Words
 pub mod Agree
-mod Step
+pub mod Step
 pub mod Walk
 pub mod Pair
 pub mod TwoPrograms
