@@ -2,10 +2,12 @@
 use Prim.Native.Nat.{ℕ, _/_, _%_, _^_}
 use mathlib.Core.Path.{_≡_, refl, sym, _∙_, ap}
 use mathlib.Core.List.{List}
+use lib.ListN.{length}
 use mathlib.Core.Bool.{Bool, true, false}
 use Rattle.machine.specs.declared.ParcelAddr.{ParcelAddr}
 use Rattle.machine.specs.declared.Fetched.{Fetched}
 use Rattle.machine.specs.declared.Fetched.the-variants.{Parcel, Outside}
+use Rattle.machine.specs.declared.Stray.the-variants.{Clean}
 use Rattle.machine.specs.declared.Work.{Work}
 use Rattle.machine.specs.declared.Work.the-variants.{PastOne, To, NotHeld}
 use Rattle.machine.specs.Word.{pick}
@@ -16,7 +18,7 @@ use Rattle.machine.specs.Act.{Instr, Act, Does, Goes, act}
 use Rattle.machine.specs.Codes.{Code, None, One, Two, codeOf}
 use Rattle.machine.specs.Work.{past, noParcel, done, decoded, statusOf, perform, doneWith}
 use Rattle.machine.specs.Layout.{registersOf, frameOf}
-use Rattle.access.specs.Executed.{Executes, Puts}
+use Rattle.access.specs.Executed.{told, Executes, Puts}
 
 -- the act of an instruction at p, of so many parcels
 abbrev pub actAt : List ℕ → ℕ → ℕ → ℕ → ℕ → Instr → Act
@@ -25,20 +27,20 @@ actAt r p x m parcels n = act (registersOf r) (statusOf (frameOf r) (registersOf
 module _ (w : Work) (r r′ mem mem′ : List ℕ) (p x : ℕ) where
   -- what was done with what stands there
   executes : (c : Code) → codeOf (user (frameOf r)) x ≡ c → frameOf r′ ≡ frameOf r
-      → done w (registersOf r′) (sharing mem′) ≡ doneWith (frameOf r) (registersOf r) p (sharing mem) (decoded (frameOf r) mem p x c)
+      → done w (told w r′ (length mem′)) (registersOf r′) (sharing mem′) ≡ doneWith (frameOf r) (registersOf r) p (sharing mem) (decoded (frameOf r) mem p x c)
       → Executes w r r′ mem mem′ p x
   executes c e f d = record { frame = f; done = rw e d }
 
   -- one parcel, of which the act does all
   pub one : (n : Instr) → codeOf (user (frameOf r)) x ≡ One n → frameOf r′ ≡ frameOf r
-      → done w (registersOf r′) (sharing mem′) ≡ perform (frameOf r) (registersOf r) 1 (sharing mem) (actAt r p x 0 1 n)
+      → done w (told w r′ (length mem′)) (registersOf r′) (sharing mem′) ≡ perform (frameOf r) (registersOf r) 1 (sharing mem) (actAt r p x 0 1 n)
       → Executes w r r′ mem mem′ p x
   unfolding decoded doneWith
   one n e f d = executes (One n) e f d
 
   -- two parcels, of which the second was fetched
   pub two : (n : Instr) (m : ℕ) → codeOf (user (frameOf r)) x ≡ Two n → fetchOf (frameOf r) mem (onward p 1) ≡ Parcel m → frameOf r′ ≡ frameOf r
-      → done w (registersOf r′) (sharing mem′) ≡ perform (frameOf r) (registersOf r) 2 (sharing mem) (actAt r p x m 2 n)
+      → done w (told w r′ (length mem′)) (registersOf r′) (sharing mem′) ≡ perform (frameOf r) (registersOf r) 2 (sharing mem) (actAt r p x m 2 n)
       → Executes w r r′ mem mem′ p x
   unfolding decoded doneWith
   two n m e g f d = executes (Two n) e f (rw g d)
@@ -48,11 +50,17 @@ pub not-held : (r mem : List ℕ) (p x : ℕ) → codeOf (user (frameOf r)) x �
 unfolding decoded doneWith
 not-held r mem p x e = executes NotHeld r r mem mem p x None e refl refl
 
+-- a parcel that lies outside is no operand
+no-stray : (u : Bool) (r : List ℕ) (len : ℕ) → told (noParcel u) r len ≡ Clean
+unfolding noParcel
+no-stray true r len = refl
+no-stray false r len = refl
+
 -- a second parcel that lies outside
 pub lost : (w : Work) (r mem : List ℕ) (p x : ℕ) (n : Instr) → codeOf (user (frameOf r)) x ≡ Two n → fetchOf (frameOf r) mem (onward p 1) ≡ Outside
     → w ≡ noParcel (user (frameOf r)) → Executes w r r mem mem p x
 unfolding decoded doneWith
-lost w r mem p x n e g h = executes w r r mem mem p x (Two n) e refl (rw (g, h))
+lost w r mem p x n e g h = executes w r r mem mem p x (Two n) e refl (rw (g, h, no-stray (user (frameOf r)) r (length mem)))
 
 -- one parcel, and a register written
 pub puts : (n : Instr) (u : Put) (w : Work) (r r′ mem : List ℕ) (p x : ℕ) → (w ≡ PastOne) × Puts r r′ u
@@ -62,7 +70,7 @@ unfolding perform
 puts n u w r r′ mem p x h e a = one w r r′ mem mem p x n e (h .1 .frame) (rw (a, h .0, h .1 .registers))
 
 -- two parcels, and a register written
-pub puts-two : (n : Instr) (u : Put) (w : Work) (r r′ mem : List ℕ) (p x m : ℕ) → w ≡ past 2 → Puts r r′ u → codeOf (user (frameOf r)) x ≡ Two n
+pub puts-two : (n : Instr) (u : Put) (w : Work) (r r′ mem : List ℕ) (p x m : ℕ) → w ≡ past 2 Clean → Puts r r′ u → codeOf (user (frameOf r)) x ≡ Two n
     → fetchOf (frameOf r) mem (onward p 1) ≡ Parcel m → actAt r p x m 2 n ≡ Does u → Executes w r r′ mem mem p x
 unfolding perform
 puts-two n u w r r′ mem p x m h k e g a = two w r r′ mem mem p x n m e g (k .frame) (rw (a, h, k .registers))

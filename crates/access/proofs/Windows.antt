@@ -11,14 +11,15 @@ use borrow.Author.Tests.{le-ltb, lt-ltb, lt-leb, leb-true, leb-false, ltb-true, 
 use Rattle.machine.specs.declared.Reach.{Reach}
 use Rattle.machine.specs.declared.ParcelAddr.{ParcelAddr}
 use Rattle.machine.specs.declared.Place.{Place}
-use Rattle.machine.specs.declared.Place.the-variants.{At, Beyond}
+use Rattle.machine.specs.declared.Place.the-variants as place
+use Rattle.machine.specs.declared.Cause.the-variants.{BelowBase, OverLimit, BeyondMemory}
 use Rattle.machine.specs.declared.Fetched.{Fetched}
 use Rattle.machine.specs.declared.Fetched.the-variants.{Parcel, Outside}
 use Rattle.machine.specs.Word.{pick}
 use Rattle.machine.specs.Parcel.{wordOf, parcelOf, onward}
 use Rattle.machine.specs.State.{Frame, addr}
 use Rattle.machine.specs.Memory.{Field, dataField, codeField, placeOf, parcelAt, fetchOf}
-use Rattle.access.specs.Window.{extent, Reaches, Inside, fetchIn, placeIn}
+use Rattle.access.specs.Window.{extent, Reaches, Inside, Spot, At, Beyond, spotOf, fetchIn, placeIn}
 
 -- the lesser of a limit and a length
 least : (a b : ℕ) → (pick (leb a b) a b ≤ a) × (pick (leb a b) a b ≤ b) × ((c : ℕ) → c < a → c < b → c < pick (leb a b) a b)
@@ -30,7 +31,7 @@ least a b = go (leb a b) refl
 
 module _ (f : Field) (len w : ℕ) (narrow : f .base < 2 ^ 17) (short : len ≤ 2 ^ 22) where
   -- a word of the window is inside, that many places after the base
-  window-in : w % 2 ^ 22 < extent (f .base) (f .limit) len → placeOf f len w ≡ At (f .base * 32 + w % 2 ^ 22)
+  window-in : w % 2 ^ 22 < extent (f .base) (f .limit) len → placeOf f len w ≡ place.Inside (f .base * 32 + w % 2 ^ 22)
   unfolding placeOf
   window-in h =
       let l = least (f .limit * 32) len in
@@ -41,7 +42,7 @@ module _ (f : Field) (len w : ℕ) (narrow : f .base < 2 ^ 17) (short : len ≤ 
       rw (e, b, m, n)
 
   -- and every other word is outside
-  window-out : extent (f .base) (f .limit) len ≤ w % 2 ^ 22 → placeOf f len w ≡ Beyond
+  window-out : extent (f .base) (f .limit) len ≤ w % 2 ^ 22 → spotOf (placeOf f len w) ≡ Beyond
   unfolding placeOf
   window-out h =
       go (ltb q (f .base * 32)) (leb (f .limit * 32) q) (leb len q) refl refl refl
@@ -49,7 +50,8 @@ module _ (f : Field) (len w : ℕ) (narrow : f .base < 2 ^ 17) (short : len ≤ 
       q : ℕ
       q = (w % 2 ^ 22 + f .base * 32) % 2 ^ 22
 
-      go : (s t u : Bool) → ltb q (f .base * 32) ≡ s → leb (f .limit * 32) q ≡ t → leb len q ≡ u → pick s Beyond (pick t Beyond (pick u Beyond (At q))) ≡ Beyond
+      go : (s t u : Bool) → ltb q (f .base * 32) ≡ s → leb (f .limit * 32) q ≡ t → leb len q ≡ u → spotOf
+          (pick s (place.Outside BelowBase) (pick t (place.Outside OverLimit) (pick u (place.Outside BeyondMemory) (place.Inside q)))) ≡ Beyond
       go true t u d e g = refl
       go false true u d e g = refl
       go false false true d e g = refl
@@ -66,12 +68,12 @@ module _ (f : Field) (len w : ℕ) (narrow : f .base < 2 ^ 17) (short : len ≤ 
           absurd z
 
   -- so the window is the field
-  pub window : (first words : ℕ) → first ≡ f .base * 32 → words ≡ extent (f .base) (f .limit) len → placeIn first words w ≡ placeOf f len w
+  pub window : (first words : ℕ) → first ≡ f .base * 32 → words ≡ extent (f .base) (f .limit) len → placeIn first words w ≡ spotOf (placeOf f len w)
   unfolding placeIn
   window first words e g = go (ltb (w % 2 ^ 22) words) refl
     where
-      go : (t : Bool) → ltb (w % 2 ^ 22) words ≡ t → pick t (At (first + w % 2 ^ 22)) Beyond ≡ placeOf f len w
-      go true h = rw e (sym (window-in (omega (arith, ltb-true (w % 2 ^ 22) words h))))
+      go : (t : Bool) → ltb (w % 2 ^ 22) words ≡ t → pick t (At (first + w % 2 ^ 22)) Beyond ≡ spotOf (placeOf f len w)
+      go true h = rw (e, window-in (omega (arith, ltb-true (w % 2 ^ 22) words h)))
       go false h = sym (window-out (omega (arith, ltb-false (w % 2 ^ 22) words h)))
 
 -- what a frame reaches lies in the memory
@@ -86,7 +88,7 @@ module _ (fr : Frame) (f : Reach) (len : ℕ) (h : Reaches fr f len) where
   operands-low = omega (arith, h .operands, h .dba)
 
   -- an operand's place; only the low 22 bits of its address count
-  pub operand-place : (address n : ℕ) → n % 2 ^ 22 ≡ address % 2 ^ 22 → placeIn (f .operands) (f .words) n ≡ placeOf (dataField fr) len address
+  pub operand-place : (address n : ℕ) → n % 2 ^ 22 ≡ address % 2 ^ 22 → placeIn (f .operands) (f .words) n ≡ spotOf (placeOf (dataField fr) len address)
   unfolding placeIn
   operand-place address n e =
       rw e (window (dataField fr) len address (h .dba) (h .size) (f .operands) (f .words) (h .operands) (h .words))
@@ -96,13 +98,16 @@ pub fetched : (fr : Frame) (f : Reach) (mem : List ℕ) (p : ℕ) → Reaches fr
 unfolding fetchOf fetchIn placeIn
 fetched fr f mem p h l =
     let low : wordOf p % 2 ^ 22 ≡ wordOf p = omega arith in
-    let place : placeIn (f .code) (f .span) (wordOf p) ≡ placeOf (codeField fr) (length mem) (wordOf p)
+    let spot : placeIn (f .code) (f .span) (wordOf p) ≡ spotOf (placeOf (codeField fr) (length mem) (wordOf p))
     = window (codeField fr) (length mem) (wordOf p) (h .iba) (h .size) (f .code) (f .span) (h .code) (h .span) in
-    rw (← place, low) (go (ltb (wordOf p) (f .span)))
+    go (ltb (wordOf p) (f .span)) (placeOf (codeField fr) (length mem) (wordOf p)) (rw low at spot)
   where
-    go : (t : Bool) → pick t (Parcel (parcelOf (getD mem (f .code + wordOf p) 0) p)) Outside ≡ parcelAt mem p (pick t (At (f .code + wordOf p)) Beyond)
-    go true = refl
-    go false = refl
+    go : (t : Bool) (o : Place) → pick t (At (f .code + wordOf p)) Beyond ≡ spotOf o
+        → pick t (Parcel (parcelOf (getD mem (f .code + wordOf p) 0) p)) Outside ≡ parcelAt mem p o
+    go true (place.Inside n) e = let z : f .code + wordOf p ≡ n = cc in rw z
+    go true (place.Outside cause) e = let z : _≡_ {A = ℕ} 0 1 = cc in absurd (omega arith)
+    go false (place.Inside n) e = let z : _≡_ {A = ℕ} 0 1 = cc in absurd (omega arith)
+    go false (place.Outside cause) e = refl
 
 -- a parcel that is fetched has 16 bits
 pub parcel-narrow : (f : Reach) (mem : List ℕ) (p m : ℕ) → fetchIn f mem p ≡ Parcel m → m < 2 ^ 16

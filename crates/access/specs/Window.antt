@@ -1,13 +1,13 @@
 -- The two fields of a processor as windows of memory: made once, and good until an exchange. Assumes nothing.
 use Prim.Native.Nat.{ℕ, _+_, _-_, _*_, _%_, _^_, _<_, _≤_}
 use mathlib.Core.Path.{_≡_}
-use mathlib.Core.Bool.{Bool}
+use mathlib.Core.Bool.{Bool, true, false}
 use mathlib.Core.List.{List}
-use lib.ListN.{length, getD}
+use lib.ListN.{length, getD, set}
 use lib.Dec.{leb, ltb}
 use Rattle.machine.specs.declared.Reach.{Reach}
 use Rattle.machine.specs.declared.Place.{Place}
-use Rattle.machine.specs.declared.Place.the-variants.{At, Beyond}
+use Rattle.machine.specs.declared.Place.the-variants as place
 use Rattle.machine.specs.declared.Fetched.{Fetched}
 use Rattle.machine.specs.declared.Fetched.the-variants.{Parcel, Outside}
 use Rattle.machine.specs.Word.{pick}
@@ -32,9 +32,30 @@ pub record Reaches (fr : Frame) (f : Reach) (len : ℕ) : Type 0 where
 abbrev pub Inside : ℕ → ℕ → ℕ → Type 0
 Inside first words len = (w : ℕ) → w < words → first + w < len
 
+-- where an address lies in a window: at a place of memory, or beyond it, as one outside the field does for any cause
+pub data Spot : Type 0 where
+  At : ℕ → Spot
+  Beyond : Spot
+
+abbrev pub spotOf : Place → Spot
+spotOf (place.Inside n) = At n
+spotOf (place.Outside cause) = Beyond
+
+abbrev pub isBeyond : Spot → Bool
+isBeyond (At n) = false
+isBeyond Beyond = true
+
+abbrev pub loadIn : List ℕ → Spot → ℕ
+loadIn mem (At n) = getD mem n 0
+loadIn mem Beyond = 0
+
+abbrev pub storeIn : List ℕ → Spot → ℕ → List ℕ
+storeIn mem (At n) x = set mem n x
+storeIn mem Beyond x = mem
+
 -- the parcel at p, and the place of an address, by windows
 unfoldable pub fetchIn : Reach → List ℕ → ℕ → Fetched
 fetchIn f mem p = pick (ltb (wordOf p) (f .span)) (Parcel (parcelOf (getD mem (f .code + wordOf p) 0) p)) Outside
 
-unfoldable pub placeIn : ℕ → ℕ → ℕ → Place
+unfoldable pub placeIn : ℕ → ℕ → ℕ → Spot
 placeIn first words address = pick (ltb (address % 2 ^ 22) words) (At (first + address % 2 ^ 22)) Beyond

@@ -2,7 +2,6 @@
 pub mod words;
 
 ghost use mathlib.Core.Path.{_≡_};
-ghost use mathlib.Core.Bool.{true};
 ghost use mathlib.Core.List.{List};
 ghost use Prim.Native.Nat.{ℕ, _+_, _*_, _/_, _%_, _^_, _<_, _≤_};
 ghost use lib.ListN.{length, getD, set};
@@ -12,10 +11,12 @@ ghost use Rattle.machine.specs.declared.Work.the-variants.{PastOne};
 ghost use Rattle.machine.specs.Word.{pick};
 ghost use Rattle.machine.specs.Parcel.{hOf, iOf, jOf, kOf, jkOf, jkmOf, ijkmOf, onward};
 ghost use Rattle.machine.specs.State.{addr, user, ai, ah, aj, ak, si, sj, sk, el, ToA, ToS, ToB, ToT, ToElement};
-ghost use Rattle.machine.specs.Work.{past, ranged, noParcel};
+ghost use Rattle.machine.specs.Memory.{dataField, placeOf};
+ghost use Rattle.machine.specs.Work.{noParcel};
 ghost use Rattle.machine.specs.Layout.{registersOf, frameOf};
-ghost use Rattle.access.specs.Window.{extent, Reaches, Inside, fetchIn, placeIn};
-ghost use Rattle.access.specs.Executed.{Puts, Control, toControl};
+ghost use Rattle.access.specs.Window.{extent, Reaches, Inside, fetchIn};
+ghost use Rattle.access.specs.Executed.{Puts, Ends, Control, toControl};
+use machine::Cause;
 use machine::Fetched;
 use machine::ParcelAddr;
 use machine::Place;
@@ -312,38 +313,24 @@ pub fn on(p: ParcelAddr, n: u64) -> ParcelAddr
     ParcelAddr(std::num::wrapping_add_u64(p.0, n) % 16777216)
 }
 
-// P goes past an instruction of one parcel, or of two.
-fn past_all(parcels: u64) -> Work
-    ensures { λ w. ⌜ w ≡ past parcels ⌝ }
+// The end of an instruction of so many parcels that referred to memory. Where an operand lay outside, P's place takes a number that tells
+// which: P is kept beside the words while steps are taken, and goes to its place after them.
+pub fn ended(r: &mut [u64], parcels: u64, outside: bool, n: u64) -> Work
+    requires { ⌜ length (now r) ≡ 672 ⌝ }
+    ensures { λ w. ⌜ Ends w (now (r .entry)) (now (r .exit)) parcels outside n ⌝ }
 {
+    if outside {
+        r[P] = n;
+        return if parcels == 1 {
+            Work::StrayedOne
+        } else {
+            Work::StrayedTwo
+        };
+    }
     if parcels == 1 {
         Work::PastOne
     } else {
         Work::PastTwo
-    }
-}
-
-// What an operand outside its field comes to after an instruction of so many parcels.
-fn out_of_range(r: &[u64], parcels: u64) -> Work
-    requires { ⌜ length (now r) ≡ 672 ⌝ }
-    ensures { λ w. ⌜ w ≡ ranged (user (frameOf (now (r .entry)))) (registersOf (now (r .entry)) .ior) parcels true ⌝ }
-{
-    if r[MM] == 0 && r[IOR] == 1 {
-        Work::OperandRange(parcels)
-    } else {
-        past_all(parcels)
-    }
-}
-
-// The end of an instruction of so many parcels that referred to memory, perhaps outside its field.
-pub fn ended(r: &[u64], parcels: u64, outside: bool) -> Work
-    requires { ⌜ length (now r) ≡ 672 ⌝ }
-    ensures { λ w. ⌜ w ≡ ranged (user (frameOf (now (r .entry)))) (registersOf (now (r .entry)) .ior) parcels outside ⌝ }
-{
-    if outside {
-        out_of_range(r, parcels)
-    } else {
-        past_all(parcels)
     }
 }
 
@@ -411,15 +398,24 @@ pub fn word_at(n: u64) -> WordAddr
     WordAddr(n % 4194304)
 }
 
-// The place of an address in a window of so many words from `first` on.
-pub fn locate(first: usize, words: u64, n: u64) -> Place
-    requires { ⌜ first ≤ 2 ^ 22 ⌝ }
-    ensures { λ o. ⌜ o ≡ placeIn first words n ⌝ }
+// Where a word of the data field lies in a memory of so many words, or why it lies outside.
+pub fn place_of(r: &[u64], words: u64, n: u64) -> Place
+    requires { ⌜ length (now r) ≡ 672 ⌝ }
+    requires { ⌜ (frameOf (now r) .dba < 2 ^ 17) × (frameOf (now r) .dla < 2 ^ 17) ⌝ }
+    ensures { λ o. ⌜ o ≡ placeOf (dataField (frameOf (now (r .entry)))) words n ⌝ }
 {
+    let base = r[DBA] * 32;
+    let limit = r[DLA] * 32;
     let w = word_at(n);
-    if w.0 < words {
-        Place::At(first + w.0 as usize)
-    } else {
-        Place::Beyond
+    let sum = (w.0 + base) % 4194304;
+    if sum < base {
+        return Place::Outside(Cause::BelowBase);
     }
+    if limit <= sum {
+        return Place::Outside(Cause::OverLimit);
+    }
+    if words <= sum {
+        return Place::Outside(Cause::BeyondMemory);
+    }
+    Place::Inside(sum as usize)
 }

@@ -33,7 +33,8 @@ pub fn answer(sheet: &[u8], out: &mut [u8]) -> usize
             let mut r = [0u64; 672];
             let ran = run_package(&mut r, &mut mem, steps);
             let ending = ran.ending;
-            text::report(ending, ran.steps, &r, &before, &mem, out)
+            let stray = ran.stray;
+            text::report(ending, stray, ran.steps, &r, &before, &mem, out)
         }
         Sheet::Bad(line) => text::refused(line, out),
     }

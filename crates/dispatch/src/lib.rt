@@ -7,11 +7,7 @@ ghost use Prim.Native.Nat.{ℕ, _/_, _^_, _<_, _≤_};
 ghost use lib.ListN.{length};
 ghost use Rattle.machine.specs.declared.Work.the-variants.{PastOne, NotHeld};
 ghost use Rattle.machine.specs.Word.{pick};
-ghost use Rattle.machine.specs.State.{user};
-ghost use Rattle.machine.specs.Work.{ranged};
-ghost use Rattle.machine.specs.Layout.{registersOf, frameOf};
-ghost use Rattle.access.specs.Window.{Reaches};
-ghost use Rattle.access.specs.Executed.{Executes, Alone};
+ghost use Rattle.access.specs.Executed.{Executes, Alone, Ends};
 ghost use Rattle.vector.specs.Element.{plain, Vector};
 ghost use Rattle.dispatch.specs.Table.{Ready, Works, armOf, highArm};
 use control::Test;
@@ -180,12 +176,12 @@ fn vectors(r: &mut [u64], x: u64)
     }
 }
 
-// The end of an instruction of one parcel that moved words, perhaps outside the data field.
-fn moved(outside: bool, r: &[u64]) -> Work
+// The end of a block move x, of which a word may have lain outside the data field.
+fn moved(outside: bool, r: &mut [u64], x: u64) -> Work
     requires { ⌜ length (now r) ≡ 672 ⌝ }
-    ensures { λ w. ⌜ w ≡ ranged (user (frameOf (now (r .entry)))) (registersOf (now (r .entry)) .ior) 1 outside ⌝ }
+    ensures { λ w. ⌜ Ends w (now (r .entry)) (now (r .exit)) 1 outside x ⌝ }
 {
-    access::ended(r, 1, outside)
+    access::ended(r, 1, outside, x)
 }
 
 // 176i0k: Vi from memory.
@@ -197,19 +193,19 @@ fn read_v(r: &mut [u64], mem: &[u64], f: Reach, x: u64) -> Work
     if access::j(x) != 0 {
         return Work::NotHeld;
     }
-    moved(memory::blocks::read_v(r, mem, f.operands, f.words, x), r)
+    moved(memory::blocks::read_v(r, mem, f.operands, f.words, x), r, x)
 }
 
 // 1770jk: Vj to memory.
-fn store_v(r: &[u64], mem: &mut [u64], f: Reach, x: u64) -> Work
+fn store_v(r: &mut [u64], mem: &mut [u64], f: Reach, x: u64) -> Work
     requires { ⌜ Ready (now r) f (length (now mem)) ⌝ }
     requires { ⌜ x / 512 ≡ 0o177 ⌝ }
-    ensures { λ w. ⌜ ((p : ℕ) → Executes w (now (r .entry)) (now (r .entry)) (now (mem .entry)) (now (mem .exit)) p x) ⌝ }
+    ensures { λ w. ⌜ ((p : ℕ) → Executes w (now (r .entry)) (now (r .exit)) (now (mem .entry)) (now (mem .exit)) p x) ⌝ }
 {
     if access::i(x) != 0 {
         return Work::NotHeld;
     }
-    moved(memory::blocks::store_v(r, mem, f.operands, f.words, x), r)
+    moved(memory::blocks::store_v(r, mem, f.operands, f.words, x), r, x)
 }
 
 // 100 to 177.
@@ -311,10 +307,10 @@ fn from_020(r: &mut [u64], mem: &mut [u64], f: Reach, p: ParcelAddr, x: u64, n: 
         0o030 => address::sum(r, x),
         0o031 => address::difference(r, x),
         0o032 => address::product(r, x),
-        0o034 => moved(memory::blocks::read_b(r, mem, f.operands, f.words, x), r),
-        0o035 => moved(memory::blocks::store_b(r, mem, f.operands, f.words, x), r),
-        0o036 => moved(memory::blocks::read_t(r, mem, f.operands, f.words, x), r),
-        0o037 => moved(memory::blocks::store_t(r, mem, f.operands, f.words, x), r),
+        0o034 => moved(memory::blocks::read_b(r, mem, f.operands, f.words, x), r, x),
+        0o035 => moved(memory::blocks::store_b(r, mem, f.operands, f.words, x), r, x),
+        0o036 => moved(memory::blocks::read_t(r, mem, f.operands, f.words, x), r, x),
+        0o037 => moved(memory::blocks::store_t(r, mem, f.operands, f.words, x), r, x),
         _ => from_040(r, mem, f, p, x, n),
     }
 }

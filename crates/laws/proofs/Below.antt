@@ -9,7 +9,7 @@ use lib.Dec.{ltb}
 use lib.Pow.{pow-pos}
 use borrow.Author.Tests.{lt-ltb, ltb-true}
 use Rattle.machine.specs.declared.Place.{Place}
-use Rattle.machine.specs.declared.Place.the-variants.{At, Beyond}
+use Rattle.machine.specs.declared.Place.the-variants.{Inside, Outside}
 use Rattle.machine.specs.Word.{pick}
 use Rattle.machine.specs.State.{fill, ring}
 use Rattle.machine.specs.Memory.{Field, placeOf, loadAt, storeAt, load, store, stores}
@@ -68,8 +68,8 @@ module _ (n : ℕ) (f : ℕ → ℕ) (h : (e : ℕ) → f e < n) where
       go l (placeOf field (length l) (at k)) (below-stores field at k mem e)
     where
       go : (l : List ℕ) (o : Place) → below n l ≡ true → below n (storeAt l o (f k)) ≡ true
-      go l (At w) e = below-set n l w (f k) e (h k)
-      go l Beyond e = e
+      go l (Inside w) e = below-set n l w (f k) e (h k)
+      go l (Outside cause) e = e
 
   pub below-eight : below n (eight f) ≡ true
   unfolding below
@@ -97,5 +97,5 @@ unfolding load
 load-lt f mem w e = go (placeOf f (length mem) w)
   where
     go : (o : Place) → loadAt mem o < 2 ^ 64
-    go (At n) = below-getD 64 mem n e
-    go Beyond = pow-pos 64
+    go (Inside n) = below-getD 64 mem n e
+    go (Outside cause) = pow-pos 64

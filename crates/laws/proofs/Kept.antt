@@ -2,13 +2,14 @@
 -- bits of S, T, V, VM and memory, which no refusal asks, belong to it: 026 counts the ones of an S into an A. Assumes nothing.
 use Prim.Native.Nat.{ℕ, zero, suc, _+_, _*_, _%_, _^_, _<_, _≤_}
 use mathlib.Core.Path.{_≡_, refl, _∙_}
-use mathlib.Core.Bool.{true}
+use mathlib.Core.Bool.{true, _&&_}
 use mathlib.Core.List.{List, [], _∷_}
 use native.Mathlib.Omega.{arith}
 use lib.ListN.{getD}
 use lib.Dec.{eqb}
 use lib.Pow.{pow-pos}
 use borrow.Author.Tests.{le-ltb}
+use Rattle.machine.specs.declared.Stray.{Stray}
 use Rattle.machine.specs.declared.Work.{Work}
 use Rattle.machine.specs.declared.Work.the-variants as work
 use Rattle.machine.specs.declared.Last.{Last}
@@ -17,12 +18,12 @@ use Rattle.machine.specs.Word.{pick}
 use Rattle.machine.specs.Parcel.{onward}
 use Rattle.machine.specs.State.{Frame, Registers, State, Shared, addr, user, si, Put, Nothing, ToA, ToS, ToB}
 use Rattle.machine.specs.State.{ToT, ToBs, ToTs, ToV, ToElement, ToVL, ToVM, ToXA, ToIOR, ToBDM, apply}
-use Rattle.machine.specs.Memory.{dataField, load}
+use Rattle.machine.specs.Memory.{dataField, load, orElse}
 use Rattle.machine.specs.Act.{Instr, Act, Does, Goes, Reads, Writes, LeavesNormally, LeavesByError, act}
 use Rattle.machine.specs.Work.{Done, perform, statusOf, workOf}
 use Rattle.machine.specs.Exchange.{packageOf, save, packageWord, loaded}
-use Rattle.machine.specs.Step.{exchange, finish, finishOf, stepOf, stops, goesOn, counted}
-use Rattle.machine.specs.Run.{blankRegisters, blankFrame, startOf, Turned, turnOf, Ended, runOf, PairEnded, pairOf}
+use Rattle.machine.specs.Step.{Out, exchange, ranged, finish, finishOf, stepOf, stops, goesOn, counted}
+use Rattle.machine.specs.Run.{blankRegisters, blankFrame, startOf, Turned, turnOf, Ended, runOf, Side, sideAfter, PairEnded, pairOf}
 use Rattle.machine.specs.Refusal.{below, stateFits, memoryFits, firstDue, stepRefusal}
 use Rattle.access.specs.Executed.{FrameOk, ControlOk}
 use Rattle.access.proofs.Fits.{Fit, fit, fits}
@@ -88,8 +89,8 @@ work-lists : (fr : Frame) (r : Registers) (p : ℕ) (sh : Shared) → FrameOk fr
     → DoneOk (workOf fr r p sh)
 work-lists fr r p sh f n c k e = work-all fr r p sh DoneOk acts (k, e) (k, e)
   where
-    acts : (i : Instr) (x m parcels : ℕ) → m < 2 ^ 16 → parcels ≤ 2 → DoneOk (perform fr r parcels sh (act r (statusOf fr r) x m (onward p parcels) i))
-    acts i x m parcels h l =
+    acts : (i : Instr) (x m parcels : ℕ) → m < 2 ^ 16 → DoneOk (perform fr r parcels sh (act r (statusOf fr r) x m (onward p parcels) i))
+    acts i x m parcels h =
         perform-lists fr r parcels sh _
         (act-ok Known r (statusOf fr r) x m (onward p parcels)
         (λ y. record { most = c .most; lists = k; word = status-lt fr r f n c; second = h; narrow = low (p + parcels) 24 }) i)
@@ -173,9 +174,10 @@ abbrev HeldIn : State → Shared → Type 0
 HeldIn st sh = Held st × (below (2 ^ 64) (sh .mem) ≡ true)
 
 module _ (st : State) (r : Registers) (sh : Shared) (h : Held st) (c : ControlOk r) (k : ListsOk r) (e : below (2 ^ 64) (sh .mem) ≡ true) where
-  exchange-held : (p flags : ℕ) → p < 2 ^ 24 → flags < 2 ^ 9 → HeldIn (exchange (st .frame) r p flags sh .state) (exchange (st .frame) r p flags sh .shared)
+  exchange-held : (p flags : ℕ) (s : Stray) → p < 2 ^ 24 → flags < 2 ^ 9
+      → HeldIn (exchange (st .frame) r p flags s sh .state) (exchange (st .frame) r p flags s sh .shared)
   unfolding exchange save
-  exchange-held p flags l g =
+  exchange-held p flags s l g =
       let words = packageOf (st .frame) r p flags in
       let narrow = package-words (st .frame) r p flags (held-fit st h .frame) c k l g in
       let saved = below-fill (2 ^ 64) (λ n. getD words n 0) (λ n. below-getD 64 words n narrow) (r .xa * 16) 16 (sh .mem) e in
@@ -193,17 +195,24 @@ module _ (st : State) (r : Registers) (sh : Shared) (h : Held st) (c : ControlOk
         vm = k .vm;
       }
 
-  finish-held : (w : Work) → Narrow w → HeldIn (finish st w r sh .state) (finish st w r sh .shared)
+  -- after an operand outside
+  ranged-held : (p : ℕ) (s : Stray) → p < 2 ^ 24 → HeldIn (ranged (st .frame) r p s sh .state) (ranged (st .frame) r p s sh .shared)
+  unfolding ranged
+  ranged-held p s l =
+      picked (λ (o : Out). HeldIn (o .state) (o .shared)) (user (st .frame) && eqb (r .ior) 1) (exchange-held p _ s l (omega arith)) (goes-held p l, e)
+
+  finish-held : (w : Work) (s : Stray) → Narrow w → HeldIn (finish st w s r sh .state) (finish st w s r sh .shared)
   unfolding finish
-  finish-held work.PastOne n = (goes-held _ (low _ 24), e)
-  finish-held work.PastTwo n = (goes-held _ (low _ 24), e)
-  finish-held (work.To q) n = (goes-held (q .0) n, e)
-  finish-held work.NormalExit n = exchange-held _ _ (low _ 24) (pick-lt (user (st .frame)) (omega arith) (omega arith))
-  finish-held work.ErrorExit n = exchange-held _ _ (low _ 24) (pick-lt (user (st .frame)) (omega arith) (omega arith))
-  finish-held (work.OperandRange parcels) n = exchange-held _ _ (low _ 24) (omega arith)
-  finish-held work.ProgramRange n = exchange-held _ _ (held-fit st h .p) (omega arith)
-  finish-held work.NotHeld n = (h, e)
-  finish-held work.MonitorFetch n = (h, e)
+  finish-held work.PastOne s n = (goes-held _ (low _ 24), e)
+  finish-held work.PastTwo s n = (goes-held _ (low _ 24), e)
+  finish-held (work.To q) s n = (goes-held (q .0) n, e)
+  finish-held work.NormalExit s n = exchange-held _ _ s (low _ 24) (pick-lt (user (st .frame)) (omega arith) (omega arith))
+  finish-held work.ErrorExit s n = exchange-held _ _ s (low _ 24) (pick-lt (user (st .frame)) (omega arith) (omega arith))
+  finish-held work.StrayedOne s n = ranged-held _ s (low _ 24)
+  finish-held work.StrayedTwo s n = ranged-held _ s (low _ 24)
+  finish-held work.ProgramRange s n = exchange-held _ _ s (held-fit st h .p) (omega arith)
+  finish-held work.NotHeld s n = (h, e)
+  finish-held work.MonitorFetch s n = (h, e)
 
 pub step-fits : (st : State) (sh : Shared) → Held st → below (2 ^ 64) (sh .mem) ≡ true
     → Held (stepOf st sh .state) × (below (2 ^ 64) (stepOf st sh .shared .mem) ≡ true)
@@ -215,92 +224,100 @@ step-fits st sh h e =
     let d = workOf fr r p sh in
     let f = held-fit st h in
     let lists = work-lists fr r p sh (f .frame) (h .processor) (f .control) (held-lists st h) e in
-    finish-held st (d .registers) (d .shared) h (work-ok fr r p sh (f .control)) (lists .0) (lists .1) (d .work) (work-p fr r p sh refl)
+    finish-held st (d .registers) (d .shared) h (work-ok fr r p sh (f .control)) (lists .0) (lists .1) (d .work) (d .stray) (work-p fr r p sh refl)
 
 -- the processor's number stays, whatever the state
-finish-processor : (st : State) (w : Work) (r : Registers) (sh : Shared) → finish st w r sh .state .frame .processor ≡ st .frame .processor
+ranged-processor : (fr : Frame) (r : Registers) (p : ℕ) (s : Stray) (sh : Shared) → ranged fr r p s sh .state .frame .processor ≡ fr .processor
+unfolding ranged exchange loaded
+ranged-processor fr r p s sh = picked (λ (o : Out). o .state .frame .processor ≡ fr .processor) (user fr && eqb (r .ior) 1) refl refl
+
+finish-processor : (st : State) (w : Work) (s : Stray) (r : Registers) (sh : Shared) → finish st w s r sh .state .frame .processor ≡ st .frame .processor
 unfolding finish exchange loaded
-finish-processor st work.PastOne r sh = refl
-finish-processor st work.PastTwo r sh = refl
-finish-processor st (work.To q) r sh = refl
-finish-processor st work.NormalExit r sh = refl
-finish-processor st work.ErrorExit r sh = refl
-finish-processor st (work.OperandRange parcels) r sh = refl
-finish-processor st work.ProgramRange r sh = refl
-finish-processor st work.NotHeld r sh = refl
-finish-processor st work.MonitorFetch r sh = refl
+finish-processor st work.PastOne s r sh = refl
+finish-processor st work.PastTwo s r sh = refl
+finish-processor st (work.To q) s r sh = refl
+finish-processor st work.NormalExit s r sh = refl
+finish-processor st work.ErrorExit s r sh = refl
+finish-processor st work.StrayedOne s r sh = ranged-processor (st .frame) r _ s sh
+finish-processor st work.StrayedTwo s r sh = ranged-processor (st .frame) r _ s sh
+finish-processor st work.ProgramRange s r sh = refl
+finish-processor st work.NotHeld s r sh = refl
+finish-processor st work.MonitorFetch s r sh = refl
 
 pub step-processor : (st : State) (sh : Shared) → stepOf st sh .state .frame .processor ≡ st .frame .processor
 unfolding stepOf finishOf
 step-processor st sh =
     let d = workOf (st .frame) (st .registers) (st .p .0) sh in
-    finish-processor st (d .work) (d .registers) (d .shared)
+    finish-processor st (d .work) (d .stray) (d .registers) (d .shared)
 
 -- ---- turns, runs and pair runs
 
 -- what every step keeps, a turn keeps, and a run
 module _ (Q : State → Shared → Type 0) (step : (st : State) (sh : Shared) → Q st sh → Q (stepOf st sh .state) (stepOf st sh .shared)) where
-  pub turn-keeps : (budget : ℕ) (l : Last) (n : ℕ) (st : State) (sh : Shared) → Q st sh → Q (turnOf budget l n st sh .state) (turnOf budget l n st sh .shared)
+  pub turn-keeps : (budget : ℕ) (l : Last) (s : Stray) (n : ℕ) (st : State) (sh : Shared) → Q st sh → Q (turnOf budget l s n st sh .state) (turnOf budget l s n st sh .shared)
   unfolding turnOf
-  turn-keeps zero l n st sh q = q
-  turn-keeps (suc budget) l n st sh q =
+  turn-keeps zero l s n st sh q = q
+  turn-keeps (suc budget) l s n st sh q =
       let o = stepOf st sh in
       picked (λ (e : Turned). Q (e .state) (e .shared)) (goesOn (o .answer))
-      (turn-keeps budget (last.Was (o .answer)) (n + counted (o .answer)) (o .state) (o .shared) (step st sh q)) (step st sh q)
+      (turn-keeps budget (last.Was (o .answer)) (orElse (o .stray) s) (n + counted (o .answer)) (o .state) (o .shared) (step st sh q)) (step st sh q)
 
-  pub run-keeps : (budget n : ℕ) (st : State) (sh : Shared) → Q st sh → Q (runOf budget n st sh .state) (runOf budget n st sh .shared)
+  pub run-keeps : (budget : ℕ) (s : Stray) (n : ℕ) (st : State) (sh : Shared) → Q st sh → Q (runOf budget s n st sh .state) (runOf budget s n st sh .shared)
   unfolding runOf
-  run-keeps zero n st sh q = q
-  run-keeps (suc budget) n st sh q =
+  run-keeps zero s n st sh q = q
+  run-keeps (suc budget) s n st sh q =
       let o = stepOf st sh in
       picked (λ (e : Ended). Q (e .state) (e .shared)) (stops (o .answer))
-      (step st sh q) (run-keeps budget (n + counted (o .answer)) (o .state) (o .shared) (step st sh q))
+      (step st sh q) (run-keeps budget (orElse (o .stray) s) (n + counted (o .answer)) (o .state) (o .shared) (step st sh q))
 
 -- and what every step of either keeps, a pair run
 module _ (Q : State → State → Shared → Type 0)
     (first : (x y : State) (sh : Shared) → Q x y sh → Q (stepOf x sh .state) y (stepOf x sh .shared))
     (second : (x y : State) (sh : Shared) → Q x y sh → Q x (stepOf y sh .state) (stepOf y sh .shared)) where
-  pub pair-keeps : (bytes : List ℕ) (l : Last) (n : ℕ) (x y : State) (sh : Shared) → Q x y sh
-      → Q (pairOf bytes l n x y sh .first) (pairOf bytes l n x y sh .second) (pairOf bytes l n x y sh .shared)
+  pub pair-keeps : (bytes : List ℕ) (l : Last) (n : ℕ) (x y : Side) (sh : Shared) → Q (x .state) (y .state) sh
+      → Q (pairOf bytes l n x y sh .first .state) (pairOf bytes l n x y sh .second .state) (pairOf bytes l n x y sh .shared)
   unfolding pairOf
   pair-keeps [] l n x y sh q = q
   pair-keeps (zero ∷ bytes) l n x y sh q =
-      let o = stepOf x sh in
-      picked (λ (e : PairEnded). Q (e .first) (e .second) (e .shared)) (goesOn (o .answer))
-      (pair-keeps bytes (last.Was (o .answer)) (n + counted (o .answer)) (o .state) y (o .shared) (first x y sh q)) (first x y sh q)
+      let o = stepOf (x .state) sh in
+      let k = first (x .state) (y .state) sh q in
+      picked (λ (e : PairEnded). Q (e .first .state) (e .second .state) (e .shared)) (goesOn (o .answer))
+      (pair-keeps bytes (last.Was (o .answer)) (n + counted (o .answer)) (sideAfter x o) y (o .shared) k) k
   pair-keeps (suc b ∷ bytes) l n x y sh q =
-      let o = stepOf y sh in
-      picked (λ (e : PairEnded). Q (e .first) (e .second) (e .shared)) (goesOn (o .answer))
-      (pair-keeps bytes (last.Was (o .answer)) (n + counted (o .answer)) x (o .state) (o .shared) (second x y sh q)) (second x y sh q)
+      let o = stepOf (y .state) sh in
+      let k = second (x .state) (y .state) sh q in
+      picked (λ (e : PairEnded). Q (e .first .state) (e .second .state) (e .shared)) (goesOn (o .answer))
+      (pair-keeps bytes (last.Was (o .answer)) (n + counted (o .answer)) x (sideAfter y o) (o .shared) k) k
 
 held-step : (st : State) (sh : Shared) → HeldIn st sh → HeldIn (stepOf st sh .state) (stepOf st sh .shared)
 held-step st sh k = step-fits st sh (k .0) (k .1)
 
-module _ (budget : ℕ) (l : Last) (n : ℕ) (st : State) (sh : Shared) where
+module _ (budget : ℕ) (l : Last) (s : Stray) (n : ℕ) (st : State) (sh : Shared) where
   pub turn-fits : Held st → below (2 ^ 64) (sh .mem) ≡ true
-      → Held (turnOf budget l n st sh .state) × (below (2 ^ 64) (turnOf budget l n st sh .shared .mem) ≡ true)
-  turn-fits h e = turn-keeps HeldIn held-step budget l n st sh (h, e)
+      → Held (turnOf budget l s n st sh .state) × (below (2 ^ 64) (turnOf budget l s n st sh .shared .mem) ≡ true)
+  turn-fits h e = turn-keeps HeldIn held-step budget l s n st sh (h, e)
 
-  pub turn-processor : turnOf budget l n st sh .state .frame .processor ≡ st .frame .processor
-  turn-processor = turn-keeps (λ s i. s .frame .processor ≡ st .frame .processor) (λ s i e. step-processor s i ∙ e) budget l n st sh refl
+  pub turn-processor : turnOf budget l s n st sh .state .frame .processor ≡ st .frame .processor
+  turn-processor = turn-keeps (λ x i. x .frame .processor ≡ st .frame .processor) (λ x i e. step-processor x i ∙ e) budget l s n st sh refl
 
-module _ (budget n : ℕ) (st : State) (sh : Shared) where
-  pub run-fits : Held st → below (2 ^ 64) (sh .mem) ≡ true → Held (runOf budget n st sh .state) × (below (2 ^ 64) (runOf budget n st sh .shared .mem) ≡ true)
-  run-fits h e = run-keeps HeldIn held-step budget n st sh (h, e)
+module _ (budget : ℕ) (s : Stray) (n : ℕ) (st : State) (sh : Shared) where
+  pub run-fits : Held st → below (2 ^ 64) (sh .mem) ≡ true → Held (runOf budget s n st sh .state) × (below (2 ^ 64) (runOf budget s n st sh .shared .mem) ≡ true)
+  run-fits h e = run-keeps HeldIn held-step budget s n st sh (h, e)
 
-  pub run-processor : runOf budget n st sh .state .frame .processor ≡ st .frame .processor
-  run-processor = run-keeps (λ s i. s .frame .processor ≡ st .frame .processor) (λ s i e. step-processor s i ∙ e) budget n st sh refl
+  pub run-processor : runOf budget s n st sh .state .frame .processor ≡ st .frame .processor
+  run-processor = run-keeps (λ x i. x .frame .processor ≡ st .frame .processor) (λ x i e. step-processor x i ∙ e) budget s n st sh refl
 
-module _ (bytes : List ℕ) (l : Last) (n : ℕ) (x y : State) (sh : Shared) where
-  pub pair-fits : Held x → Held y → below (2 ^ 64) (sh .mem) ≡ true
-      → Held (pairOf bytes l n x y sh .first) × Held (pairOf bytes l n x y sh .second) × (below (2 ^ 64) (pairOf bytes l n x y sh .shared .mem) ≡ true)
+module _ (bytes : List ℕ) (l : Last) (n : ℕ) (x y : Side) (sh : Shared) where
+  pub pair-fits : Held (x .state) → Held (y .state) → below (2 ^ 64) (sh .mem) ≡ true
+      → Held (pairOf bytes l n x y sh .first .state) × Held (pairOf bytes l n x y sh .second .state)
+      × (below (2 ^ 64) (pairOf bytes l n x y sh .shared .mem) ≡ true)
   pair-fits h g e =
       pair-keeps (λ s u i. Held s × Held u × (below (2 ^ 64) (i .mem) ≡ true))
       (λ s u i k. let o = step-fits s i (k .0) (k .2) in (o .0, k .1, o .1))
       (λ s u i k. let o = step-fits u i (k .1) (k .2) in (k .0, o .0, o .1)) bytes l n x y sh (h, g, e)
 
-  pub pair-processors : (pairOf bytes l n x y sh .first .frame .processor ≡ x .frame .processor)
-      × (pairOf bytes l n x y sh .second .frame .processor ≡ y .frame .processor)
+  pub pair-processors : (pairOf bytes l n x y sh .first .state .frame .processor ≡ x .state .frame .processor)
+      × (pairOf bytes l n x y sh .second .state .frame .processor ≡ y .state .frame .processor)
   pair-processors =
-      pair-keeps (λ s u i. (s .frame .processor ≡ x .frame .processor) × (u .frame .processor ≡ y .frame .processor))
+      pair-keeps (λ s u i. (s .frame .processor ≡ x .state .frame .processor) × (u .frame .processor ≡ y .state .frame .processor))
       (λ s u i k. (step-processor s i ∙ k .0, k .1)) (λ s u i k. (k .0, step-processor u i ∙ k .1)) bytes l n x y sh (refl, refl)

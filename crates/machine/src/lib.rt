@@ -14,21 +14,35 @@ pub enum Fetched {
     Outside,
 }
 
-// The place of a word in memory, or it lies outside its field.
-pub enum Place {
-    At(usize),
-    Beyond,
+// Why a word lies outside its field: the first of these that holds.
+pub enum Cause {
+    BelowBase,
+    OverLimit,
+    BeyondMemory,
 }
 
-// How the work of a step ends: P goes past the one parcel or the two of the instruction, or to a parcel; an exchange follows, of
-// an operand outside with the number of the instruction's parcels; or nothing was done.
+// The place of a word in memory, or why it lies outside its field.
+pub enum Place {
+    Inside(usize),
+    Outside(Cause),
+}
+
+// The first operand of a step that lay outside, by its number from 0, and why; or all were inside.
+pub enum Stray {
+    Clean,
+    First { cause: Cause, element: u64 },
+}
+
+// How the work of a step ends: P goes past the one parcel or the two of the instruction, of which an operand may have lain outside, or to
+// a parcel; an exchange follows; or nothing was done.
 pub enum Work {
     PastOne,
     PastTwo,
     To(ParcelAddr),
     NormalExit,
     ErrorExit,
-    OperandRange(u64),
+    StrayedOne,
+    StrayedTwo,
     ProgramRange,
     NotHeld,
     MonitorFetch,

@@ -1,6 +1,7 @@
-// Operands in memory: single words here, blocks of B and T and vectors in `blocks`.
+// Operands in memory: single words here, blocks of B and T and vectors in `blocks`; which of them lay outside, in `strays`.
 pub mod blocks;
 mod operands;
+pub mod strays;
 
 ghost use mathlib.Core.Path.{_≡_};
 ghost use Prim.Native.Nat.{_+_, _/_, _%_, _^_, _<_};
@@ -61,26 +62,23 @@ pub fn load(r: &mut [u64], mem: &[u64], f: Reach, p: ParcelAddr, x: u64, file: F
     let Fetched::Parcel(m) = access::fetch(mem, f, access::on(p, 1)) else {
         return access::no_parcel(r);
     };
-    let got = operands::get(mem, f.operands, f.words, indexed(r, x, m));
+    let n = indexed(r, x, m);
+    let got = operands::get(mem, f.operands, f.words, n);
     set(r, x, file, got.0);
-    access::ended(r, 2, got.1)
+    access::ended(r, 2, got.1, n % 4194304)
 }
 
 // 11h, 13h: Ai or Si to memory.
-pub fn store(r: &[u64], mem: &mut [u64], f: Reach, p: ParcelAddr, x: u64, file: File) -> Work
+pub fn store(r: &mut [u64], mem: &mut [u64], f: Reach, p: ParcelAddr, x: u64, file: File) -> Work
     requires { ⌜ (length (now r) ≡ 672) × (x / 512 / 8 ≡ storeCode file) ⌝ }
     requires { ⌜ Reaches (frameOf (now r)) f (length (now mem)) ⌝ }
-    ensures { λ w. ⌜ Executes w (now (r .entry)) (now (r .entry)) (now (mem .entry)) (now (mem .exit)) (p .0) x ⌝ }
+    ensures { λ w. ⌜ Executes w (now (r .entry)) (now (r .exit)) (now (mem .entry)) (now (mem .exit)) (p .0) x ⌝ }
 {
     let Fetched::Parcel(m) = access::fetch(mem, f, access::on(p, 1)) else {
         return access::no_parcel(r);
     };
-    let outside = operands::put(
-        mem,
-        f.operands,
-        f.words,
-        indexed(r, x, m),
-        register(r, x, file),
-    );
-    access::ended(r, 2, outside)
+    let n = indexed(r, x, m);
+    let y = register(r, x, file);
+    let outside = operands::put(mem, f.operands, f.words, n, y);
+    access::ended(r, 2, outside, n % 4194304)
 }

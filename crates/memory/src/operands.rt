@@ -3,12 +3,10 @@ ghost use mathlib.Core.Path.{_≡_};
 ghost use Prim.Native.Nat.{ℕ, _+_, _%_, _<_, _≤_};
 ghost use lib.ListN.{length, getD};
 ghost use Rattle.machine.specs.State.{ai, fill};
-ghost use Rattle.machine.specs.Memory.{isBeyond, loadAt, storeAt};
 ghost use Rattle.machine.specs.Layout.{registersOf};
-ghost use Rattle.access.specs.Window.{placeIn};
+ghost use Rattle.access.specs.Window.{placeIn, isBeyond, loadIn, storeIn};
 ghost use Rattle.access.specs.Executed.{cutTo};
 ghost use Rattle.memory.specs.Moves.{Held, ReadRow, StoredRow, straightOf};
-use machine::Place;
 
 // A word, and whether it lies outside its window, where it is zero.
 pub struct Got(pub u64, pub bool);
@@ -16,24 +14,28 @@ pub struct Got(pub u64, pub bool);
 // The word at an address.
 pub fn get(mem: &[u64], first: usize, words: u64, n: u64) -> Got
     requires { ⌜ Held first words (length (now mem)) ⌝ }
-    ensures { λ g. ⌜ (g .0 ≡ loadAt (now (mem .entry)) (placeIn first words n)) × (g .1 ≡ isBeyond (placeIn first words n)) ⌝ }
+    ensures { λ g. ⌜ (g .0 ≡ loadIn (now (mem .entry)) (placeIn first words n)) × (g .1 ≡ isBeyond (placeIn first words n)) ⌝ }
 {
-    let Place::At(at) = access::locate(first, words, n) else {
-        return Got(0, true);
-    };
-    Got(mem[at], false)
+    let w = access::word_at(n);
+    if w.0 < words {
+        Got(mem[first + w.0 as usize], false)
+    } else {
+        Got(0, true)
+    }
 }
 
 // The word at an address becomes x, unless it lies outside; whether it does.
 pub fn put(mem: &mut [u64], first: usize, words: u64, n: u64, x: u64) -> bool
     requires { ⌜ Held first words (length (now mem)) ⌝ }
-    ensures { λ o. ⌜ (now (mem .exit) ≡ storeAt (now (mem .entry)) (placeIn first words n) x) × (o ≡ isBeyond (placeIn first words n)) ⌝ }
+    ensures { λ o. ⌜ (now (mem .exit) ≡ storeIn (now (mem .entry)) (placeIn first words n) x) × (o ≡ isBeyond (placeIn first words n)) ⌝ }
 {
-    let Place::At(at) = access::locate(first, words, n) else {
-        return true;
-    };
-    mem[at] = x;
-    false
+    let w = access::word_at(n);
+    if w.0 < words {
+        mem[first + w.0 as usize] = x;
+        false
+    } else {
+        true
+    }
 }
 
 // n words of one list, from `at` on, to another, from `first` on.

@@ -10,7 +10,9 @@ ghost use Rattle.text.specs.Bounds.{HeadFits, CheckedFits, SheetFits};
 ghost use Rattle.text.specs.Report.{lineOf, commas, stopLine, modesOf, controlLines, fieldLines, programLines, registerLines};
 ghost use Rattle.text.specs.Report.{stateLines, smaller, comparedOf, change, changes, changeText, changedWords, changedLines};
 ghost use Rattle.text.specs.Report.{reportOf, refusedOf, Wrote};
+use machine::Cause;
 use machine::Ending;
+use machine::Stray;
 
 // What a line of a name and a number says: the number, and where the next line starts; or the line is bad.
 enum Head {
@@ -425,6 +427,25 @@ fn put_stop(out: &mut [u8], ending: Ending) -> usize
     }
 }
 
+// Why an operand lay outside, and its number among those of its instruction.
+fn put_stray(out: &mut [u8], at: usize, cause: Cause, element: u64) -> usize
+{
+    match cause {
+        Cause::BelowBase => put_line(out, at, b"outside=below,", element, 10, 1),
+        Cause::OverLimit => put_line(out, at, b"outside=limit,", element, 10, 1),
+        Cause::BeyondMemory => put_line(out, at, b"outside=memory,", element, 10, 1),
+    }
+}
+
+// The stray of the last step that had one.
+fn put_outside(out: &mut [u8], at: usize, stray: Stray) -> usize
+{
+    match stray {
+        Stray::Clean => put_text(out, at, b"outside=none\n"),
+        Stray::First { cause, element } => put_stray(out, at, cause, element),
+    }
+}
+
 // MM, IOR, IFP, FPS and BDM in one number.
 fn modes(r: &[u64]) -> u64
     requires { ⌜ length (now r) ≡ 672 ⌝ }
@@ -563,6 +584,7 @@ fn put_changed(out: &mut [u8], at: usize, before: &[u64], after: &[u64]) -> usiz
 // steps, the processor's words, and memory before and after.
 pub fn report(
     ending: Ending,
+    stray: Stray,
     steps: u64,
     r: &[u64; 672],
     before: &[u64],
@@ -574,8 +596,9 @@ pub fn report(
     ensures { λ n. ⌜ (length (now (before .entry)) ≤ 65536 → n ≤ 8192 + 22 * length (now (before .entry))) ⌝ }
 {
     let second = put_stop(out, ending);
-    let third = put_line(out, second, b"steps=", steps, 10, 1);
-    let changed = put_state(out, third, r);
+    let third = put_outside(out, second, stray);
+    let fourth = put_line(out, third, b"steps=", steps, 10, 1);
+    let changed = put_state(out, fourth, r);
     put_changed(out, changed, before, after)
 }
 

@@ -6,6 +6,8 @@ ghost use mathlib.Core.Path.{_≡_};
 ghost use Prim.Native.Nat.{_^_, _<_, _≤_};
 ghost use lib.ListN.{length, getD};
 ghost use Rattle.machine.specs.declared.Answer.the-variants.{Exchanged};
+ghost use Rattle.machine.specs.declared.Stray.{Stray};
+ghost use Rattle.machine.specs.declared.Stray.the-variants.{Clean};
 ghost use Rattle.machine.specs.declared.Last.the-variants.{Nothing};
 ghost use Rattle.machine.specs.State.{sharing};
 ghost use Rattle.machine.specs.Step.{out, inUserMode, exchange, finish, counted};
@@ -18,6 +20,7 @@ use machine::Answer;
 use machine::Last;
 use machine::ParcelAddr;
 use machine::Reach;
+use machine::Stray;
 use machine::Work;
 
 // The flags of an exchange.
@@ -42,10 +45,11 @@ fn move_p(p: ParcelAddr, w: Work) -> Moved
     match w {
         Work::PastOne => Moved::At(access::on(p, 1)),
         Work::PastTwo => Moved::At(access::on(p, 2)),
+        Work::StrayedOne => Moved::Ends,
+        Work::StrayedTwo => Moved::Ends,
         Work::To(target) => Moved::At(target),
         Work::NormalExit => Moved::Ends,
         Work::ErrorExit => Moved::Ends,
-        Work::OperandRange(_) => Moved::Ends,
         Work::ProgramRange => Moved::Ends,
         Work::NotHeld => Moved::Ends,
         Work::MonitorFetch => Moved::Ends,
@@ -113,6 +117,20 @@ fn set_p(r: &mut [u64], p: ParcelAddr)
     r[access::P] = p.0;
 }
 
+// After an operand outside, P going to p.
+fn ranged(r: &mut [u64], mem: &mut [u64], p: ParcelAddr) -> Answer
+    requires { ⌜ Fitting (now r) (length (now mem)) ⌝ }
+    requires { ⌜ p .0 < 2 ^ 24 ⌝ }
+    ensures { λ o. ⌜ ((s : Stray) → out o s (stateOf (now (r .exit))) (sharing (now (mem .exit)))
+        ≡ ranged (frameOf (now (r .entry))) (registersOf (now (r .entry))) (p .0) s (sharing (now (mem .entry)))) ⌝ }
+{
+    if r[access::MM] == 0 && r[access::IOR] == 1 {
+        return leave(r, mem, p, OPERAND_RANGE);
+    }
+    set_p(r, p);
+    Answer::Stepped
+}
+
 // The end of a step whose instruction stood at p: P, the exchange or the stop.
 fn finish(r: &mut [u64], mem: &mut [u64], p: ParcelAddr, w: Work) -> Answer
     requires { ⌜ Fitting (now r) (length (now mem)) ⌝ }
@@ -129,13 +147,14 @@ fn finish(r: &mut [u64], mem: &mut [u64], p: ParcelAddr, w: Work) -> Answer
             set_p(r, access::on(p, 2));
             Answer::Stepped
         }
+        Work::StrayedOne => ranged(r, mem, access::on(p, 1)),
+        Work::StrayedTwo => ranged(r, mem, access::on(p, 2)),
         Work::To(q) => {
             set_p(r, q);
             Answer::Stepped
         }
         Work::NormalExit => leave(r, mem, access::on(p, 1), in_user_mode(r, NORMAL_EXIT)),
         Work::ErrorExit => leave(r, mem, access::on(p, 1), in_user_mode(r, ERROR_EXIT)),
-        Work::OperandRange(n) => leave(r, mem, access::on(p, n), OPERAND_RANGE),
         Work::ProgramRange => leave(r, mem, p, PROGRAM_RANGE),
         Work::NotHeld => {
             set_p(r, p);
@@ -171,35 +190,164 @@ fn last_after(n: u64) -> Last
     }
 }
 
-// The last answer of a turn, and how many of its steps stepped or exchanged.
+// Whether an operand of a step's work lay outside, and of how many parcels its instruction is.
+pub enum Strays {
+    None,
+    One,
+    Two,
+}
+
+fn strays(w: Work) -> Strays
+    ensures { λ o. ⌜ o ≡ straysOf w ⌝ }
+{
+    match w {
+        Work::PastOne => Strays::None,
+        Work::PastTwo => Strays::None,
+        Work::To(_) => Strays::None,
+        Work::NormalExit => Strays::None,
+        Work::ErrorExit => Strays::None,
+        Work::StrayedOne => Strays::One,
+        Work::StrayedTwo => Strays::Two,
+        Work::ProgramRange => Strays::None,
+        Work::NotHeld => Strays::None,
+        Work::MonitorFetch => Strays::None,
+    }
+}
+
+// What a burst came to after so many steps: its budget is spent; an operand of the next step, at p, lay outside, and that step has still to
+// end; or the next step has ended. What is looked for after a stray stays so outside the loop of steps.
+pub enum Came {
+    Spent(u64),
+    StrayedOne { steps: u64, p: ParcelAddr },
+    StrayedTwo { steps: u64, p: ParcelAddr },
+    Ended { steps: u64, answer: Answer },
+}
+
+// A burst from P on.
+fn burst(r: &mut [u64], mem: &mut [u64], budget: u64) -> Came
+    requires { ⌜ Fitting (now r) (length (now mem)) ⌝ }
+    requires { ⌜ (getD (now r) 0 0 < 2 ^ 24) × (budget ≤ 1000000) ⌝ }
+    ensures { λ c. ⌜ Comes c budget (now (r .entry)) (now (r .exit)) (now (mem .entry)) (now (mem .exit)) ⌝ }
+{
+    let f = access::reach(r, mem);
+    let from = ParcelAddr(r[access::P]);
+    let b = take_burst(r, mem, f, from, budget);
+    let p = b.p;
+    let steps = b.steps;
+    if steps == budget {
+        set_p(r, p);
+        return Came::Spent(steps);
+    }
+    let work = b.work;
+    match strays(work) {
+        Strays::One => Came::StrayedOne { steps, p },
+        Strays::Two => Came::StrayedTwo { steps, p },
+        Strays::None => Came::Ended {
+            steps,
+            answer: finish(r, mem, p, work),
+        },
+    }
+}
+
+// The last answer of steps taken together; the stray of the last that had one; and how many of them stepped or exchanged.
 pub struct Turned {
     pub last: Last,
+    pub stray: Stray,
     pub steps: u64,
+}
+
+// The end of a step whose work strayed, after so many steps; P goes to p.
+fn strayed(r: &mut [u64], mem: &mut [u64], steps: u64, p: ParcelAddr, work: Work) -> Turned
+    requires { ⌜ Fitting (now r) (length (now mem)) ⌝ }
+    requires { ⌜ (p .0 < 2 ^ 24) × (steps ≤ 1000000) ⌝ }
+    ensures { λ t. ⌜ Strayed t steps (p .0) work (now (r .entry)) (now (r .exit)) (now (mem .entry)) (now (mem .exit)) ⌝ }
+{
+    let stray = memory::strays::of(r, mem.len() as u64, work);
+    let answer = ranged(r, mem, p);
+    Turned {
+        last: Last::Was(answer),
+        stray,
+        steps: steps + count_of(answer),
+    }
+}
+
+// What a burst came to, its last step ended.
+fn end(r: &mut [u64], mem: &mut [u64], came: Came) -> Turned
+    requires { ⌜ Ending came (now r) (length (now mem)) ⌝ }
+    ensures { λ t. ⌜ Ended t came (now (r .entry)) (now (r .exit)) (now (mem .entry)) (now (mem .exit)) ⌝ }
+{
+    match came {
+        Came::Spent(steps) => Turned {
+            last: last_after(steps),
+            stray: Stray::Clean,
+            steps,
+        },
+        Came::StrayedOne { steps, p } => strayed(r, mem, steps, access::on(p, 1), Work::StrayedOne),
+        Came::StrayedTwo { steps, p } => strayed(r, mem, steps, access::on(p, 2), Work::StrayedTwo),
+        Came::Ended { steps, answer } => Turned {
+            last: Last::Was(answer),
+            stray: Stray::Clean,
+            steps: steps + count_of(answer),
+        },
+    }
+}
+
+// One stray, or if there is none the other.
+fn or_else(stray: Stray, other: Stray) -> Stray
+{
+    match stray {
+        Stray::Clean => other,
+        Stray::First { cause, element } => Stray::First { cause, element },
+    }
+}
+
+// Whether steps go on after an answer: where it stepped, and after an exchange if they go through it.
+fn answer_goes(answer: Answer, through: bool) -> bool
+{
+    match answer {
+        Answer::Stepped => true,
+        Answer::Exchanged(_) => through,
+        Answer::NotHeld(_) => false,
+        Answer::MonitorFetch(_) => false,
+    }
+}
+
+fn goes(last: Last, through: bool) -> bool
+{
+    match last {
+        Last::Nothing => false,
+        Last::Was(answer) => answer_goes(answer, through),
+        Last::Refused(_) => false,
+    }
+}
+
+// Stretches until the budget is spent or the last answer ends them. One is taken at two places, so that a program that only runs gets the
+// code that the library has.
+fn take(r: &mut [u64], mem: &mut [u64], budget: u64, through: bool) -> Turned
+{
+    let start = burst(r, mem, budget);
+    let first = end(r, mem, start);
+    let mut last = first.last;
+    let mut stray = first.stray;
+    let mut steps = first.steps;
+    while steps < budget && goes(last, through) {
+        let b = burst(r, mem, budget - steps);
+        let next = end(r, mem, b);
+        let answer = next.last;
+        let newer = next.stray;
+        last = answer;
+        stray = or_else(newer, stray);
+        steps += next.steps;
+    }
+    Turned { last, stray, steps }
 }
 
 // Steps up to and including the first that exchanges or stops, at most so many.
 pub fn turn(r: &mut [u64], mem: &mut [u64], budget: u64) -> Turned
     requires { ⌜ Fitting (now r) (length (now mem)) ⌝ }
     requires { ⌜ (getD (now r) 0 0 < 2 ^ 24) × (budget ≤ 1000000) ⌝ }
-    ensures { λ t. ⌜ turned (t .last) (t .steps) (stateOf (now (r .exit))) (sharing (now (mem .exit)))
-        ≡ turnOf budget Nothing 0 (stateOf (now (r .entry))) (sharing (now (mem .entry))) ⌝ }
+    ensures { λ t. ⌜ turned (t .last) (t .stray) (t .steps) (stateOf (now (r .exit))) (sharing (now (mem .exit)))
+        ≡ turnOf budget Nothing Clean 0 (stateOf (now (r .entry))) (sharing (now (mem .entry))) ⌝ }
 {
-    let f = access::reach(r, mem);
-    let from = ParcelAddr(r[access::P]);
-    let burst = take_burst(r, mem, f, from, budget);
-    let p = burst.p;
-    let steps = burst.steps;
-    if steps == budget {
-        set_p(r, p);
-        return Turned {
-            last: last_after(steps),
-            steps,
-        };
-    }
-    let work = burst.work;
-    let answer = finish(r, mem, p, work);
-    Turned {
-        last: Last::Was(answer),
-        steps: steps + count_of(answer),
-    }
+    take(r, mem, budget, false)
 }

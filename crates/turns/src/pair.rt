@@ -16,6 +16,7 @@ use machine::Answer;
 use machine::Last;
 use machine::ParcelAddr;
 use machine::Reach;
+use machine::Stray;
 use machine::Work;
 
 // What the processor whose words start at `at` reaches.
@@ -159,6 +160,8 @@ fn take(pair: &mut [u64], mem: &mut [u64], schedule: &[u8]) -> PairBurst
 // The last answer of a pair run, and how many of its steps stepped or exchanged.
 pub struct Paired {
     pub last: Last,
+    pub first: Stray,
+    pub second: Stray,
     pub steps: u64,
 }
 
@@ -179,6 +182,8 @@ pub fn take_schedule(pair: &mut [u64], mem: &mut [u64], schedule: &[u8]) -> Pair
         keep_p(pair, at, p);
         return Paired {
             last: crate::last_after(steps),
+            first: Stray::Clean,
+            second: Stray::Clean,
             steps,
         };
     }
@@ -186,6 +191,8 @@ pub fn take_schedule(pair: &mut [u64], mem: &mut [u64], schedule: &[u8]) -> Pair
     let answer = finish_at(pair, mem, at, p, work);
     Paired {
         last: Last::Was(answer),
+        first: Stray::Clean,
+        second: Stray::Clean,
         steps: steps + crate::count_of(answer),
     }
 }

@@ -10,6 +10,7 @@ use machine::Answer;
 use machine::Ending;
 use machine::Last;
 use machine::Reply;
+use machine::Stray;
 use turns::Turned;
 use turns::pair::Paired;
 use turns::run::Ran;
@@ -63,6 +64,7 @@ pub fn turn(r: &mut [u64; 672], mem: &mut [u64], budget: u64) -> Turned
     if no != 0 {
         return Turned {
             last: Last::Refused(no),
+            stray: Stray::Clean,
             steps: 0,
         };
     }
@@ -79,10 +81,11 @@ pub fn run(r: &mut [u64; 672], mem: &mut [u64], budget: u64) -> Ran
     if no != 0 {
         return Ran {
             ending: Ending::Refused(no),
+            stray: Stray::Clean,
             steps: 0,
         };
     }
-    turns::run::take_turns(r, mem, budget)
+    turns::run::run(r, mem, budget)
 }
 
 // Two processors, one after the other in 1,344 words, over one memory: a step for each byte of a schedule of 0s and 1s, up to and
@@ -97,6 +100,8 @@ pub fn pair_run(pair: &mut [u64; 1344], mem: &mut [u64], schedule: &[u8]) -> Pai
     if no != 0 {
         return Paired {
             last: Last::Refused(no),
+            first: Stray::Clean,
+            second: Stray::Clean,
             steps: 0,
         };
     }

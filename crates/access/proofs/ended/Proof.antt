@@ -1,14 +1,21 @@
-use Rattle.machine.specs.Work.{ranged}
+use mathlib.Core.Path.{refl}
+use borrow.Author.Tests.{ne-eqb}
 use borrow.Author.Needs.{needs}
 use Rattle.access.proofs.ended.Statement.{statement}
 use Rattle.access.proofs.ended.Tie as tie
 
 returns : tie.Need-returns
-returns c = rw (c .before .if1 .taken) (c .out-of-range .ensures)
+returns c = rw (c .before .if1 .taken, c .if2 .taken) (refl, refl)
 
 returns-2 : tie.Need-returns-2
-unfolding ranged
-returns-2 c = rw (c .before .if1 .left) (c .past-all .ensures)
+returns-2 c = rw (c .before .if1 .taken, ne-eqb _ _ (c .if2 .left)) (refl, refl)
+
+returns-3 : tie.Need-returns-3
+returns-3 c = rw (c .before .if1 .left, c .if3 .taken) (refl, refl)
+
+returns-4 : tie.Need-returns-4
+returns-4 c = rw (c .before .if1 .left, ne-eqb _ _ (c .if3 .left)) (refl, refl)
 
 pub ended-spec : {M : Type 1} → statement M
-ended-spec = tie.close (tie.spec (λ c κs. search needs) (λ c κs. search needs) returns returns-2)
+ended-spec =
+    tie.close (tie.spec (λ c. search needs) (λ c. search needs) returns (λ c. search needs) returns-2 returns-3 returns-4)
