@@ -51,7 +51,7 @@ unfolding decoded doneWith
 not-held r mem p x e = executes NotHeld r r mem mem p x None e refl refl
 
 -- a parcel that lies outside is no operand
-no-stray : (u : Bool) (r : List ℕ) (len : ℕ) → told (noParcel u) r len ≡ Clean
+pub no-stray : (u : Bool) (r : List ℕ) (len : ℕ) → told (noParcel u) r len ≡ Clean
 unfolding noParcel
 no-stray true r len = refl
 no-stray false r len = refl

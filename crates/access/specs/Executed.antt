@@ -61,8 +61,9 @@ endedBy parcels outside = pick outside (pick (eqb parcels 1) StrayedOne StrayedT
 abbrev pub noted : Bool → ℕ → List ℕ → List ℕ
 noted outside n r = pick outside (set r 0 n) r
 
-abbrev pub Ends : Work → List ℕ → List ℕ → ℕ → Bool → ℕ → Type 0
-Ends w r r′ parcels outside n = (w ≡ endedBy parcels outside) × (r′ ≡ noted outside n r)
+pub record Ends (w : Work) (r r′ : List ℕ) (parcels : ℕ) (outside : Bool) (n : ℕ) : Type 0 where
+  pub work : w ≡ endedBy parcels outside
+  pub words : r′ ≡ noted outside n r
 
 -- a control register at its place
 abbrev pub Control : ℕ → Type 0

@@ -14,11 +14,18 @@ use Rattle.machine.specs.State.{user}
 use Rattle.machine.specs.Memory.{fetchOf}
 use Rattle.machine.specs.Work.{noParcel, presentOf, doneWith, workOf}
 use Rattle.machine.specs.Layout.{frameOf}
-use Rattle.access.specs.Executed.{Executes}
+use Rattle.access.specs.Executed.{Executes, Ends}
 use Rattle.vector.specs.Element.{Vector}
 use Rattle.access.proofs.Finite.{every, every-at}
+use Rattle.access.proofs.Leaf.{no-stray}
 use Rattle.control.specs.Control.{nothingAt}
+use Rattle.memory.specs.Moves.{Moved}
 use Rattle.dispatch.specs.Table.{Ready, Works, armOf, says, anyOf, highArms, highArm}
+
+-- a block move as it ended
+pub moved-ends : (w : Work) (r r′ r″ mem mem′ : List ℕ) (o : Bool) (x : ℕ) → Moved o r r′ mem mem′ x → Ends w r′ r″ 1 o x → (p : ℕ)
+    → Executes w r r″ mem mem′ p x
+moved-ends w r r′ r″ mem mem′ o x m e p = rw (e .work, e .words) (m .executes p)
 
 -- what the arm says of the code, of every code
 says-all : every (λ c. says (armOf c) c) 128 ≡ true
@@ -124,7 +131,7 @@ no-arm n e h = none-of n highArms h e
 -- the work of a step: no parcel, or the instruction that was executed
 pub works-lost : (w : Work) (r mem : List ℕ) (p : ℕ) → fetchOf (frameOf r) mem p ≡ Outside → w ≡ noParcel (user (frameOf r)) → Works w r r mem mem p
 unfolding workOf presentOf doneWith
-works-lost w r mem p e h = record { frame = refl; done = rw (e, h) }
+works-lost w r mem p e h = record { frame = refl; done = rw (e, h, no-stray (user (frameOf r)) r (length mem)) }
 
 pub works-done : (w : Work) (r r′ mem mem′ : List ℕ) (p x : ℕ) → fetchOf (frameOf r) mem p ≡ Parcel x → Executes w r r′ mem mem′ p x → Works w r r′ mem mem′ p
 unfolding workOf presentOf

@@ -12,7 +12,7 @@ use Rattle.machine.specs.State.{sharing}
 use Rattle.machine.specs.Work.{done, workOf}
 use Rattle.machine.specs.Layout.{registersOf, frameOf}
 use Rattle.access.specs.Window.{Reaches}
-use Rattle.access.specs.Executed.{FrameOk, ControlOk}
+use Rattle.access.specs.Executed.{told, FrameOk, ControlOk}
 use Rattle.control.specs.Control.{nothingAt}
 use Rattle.vector.specs.Element.{plain, other}
 
@@ -27,7 +27,7 @@ pub record Ready (r : List ℕ) (f : Reach) (len : ℕ) : Type 0 where
 -- from r to r′ and from mem to mem′ the work of a step at p was done, and w says how it ended
 pub record Works (w : Work) (r r′ mem mem′ : List ℕ) (p : ℕ) : Type 0 where
   pub frame : frameOf r′ ≡ frameOf r
-  pub done : done w (registersOf r′) (sharing mem′) ≡ workOf (frameOf r) (registersOf r) p (sharing mem)
+  pub done : done w (told w r′ (length mem′)) (registersOf r′) (sharing mem′) ≡ workOf (frameOf r) (registersOf r) p (sharing mem)
 
 -- from low to high
 abbrev within : ℕ → ℕ → ℕ → Bool

@@ -6,6 +6,7 @@ use native.Mathlib.Omega.{arith}
 use native.Mathlib.Numerals.{add-one}
 use lib.ListN.{length, getD, set, take, drop}
 use lib.Seq.{length-take-le, take-suc, drop-cons, append-snoc, set-at, drop-drop}
+use Rattle.machine.specs.declared.Stray.{Stray}
 use Rattle.machine.specs.declared.Answer.the-variants.{Exchanged}
 use Rattle.machine.specs.Word.{bits}
 use Rattle.machine.specs.State.{Registers, Frame, sharing, fill}
@@ -85,9 +86,9 @@ module _ (r r′ mem mem′ old new : List ℕ) (from to p flags : ℕ) (ok : Co
       → from ≡ bits (getD old 3 0) 40 8 * 16 → ((n : ℕ) → n < 16 → getD new n 0 ≡ getD mem (from + n) 0)
       → to ≡ bits (getD old 3 0) 40 8 * 16 → mem′ ≡ fill to (λ n. getD old n 0) 16 mem
       → stateOf r′ ≡ loadedBy (λ n. getD new n 0) (registersOf r) (frameOf r)
-      → out (Exchanged flags) (stateOf r′) (sharing mem′) ≡ exchange (frameOf r) (registersOf r) p flags (sharing mem)
+      → (s : Stray) → out (Exchanged flags) s (stateOf r′) (sharing mem′) ≡ exchange (frameOf r) (registersOf r) p flags s (sharing mem)
   unfolding exchange save
-  swaps o a h b m l =
+  swaps o a h b m l s =
       let x : bits (getD old 3 0) 40 8 ≡ registersOf r .xa = rw o (saved-xa (frameOf r) (registersOf r) p flags ok few) in
-      let s = loads r r′ new mem (registersOf r .xa) l (λ n k. h n k ∙ rw (a, x)) in
-      rw (s, m, b, x, o)
+      let k = loads r r′ new mem (registersOf r .xa) l (λ n l. h n l ∙ rw (a, x)) in
+      rw (k, m, b, x, o)

@@ -2,6 +2,7 @@
 ghost use mathlib.Core.Path.{_≡_};
 ghost use Prim.Native.Nat.{_*_, _^_, _<_, _≤_};
 ghost use lib.ListN.{length, getD};
+ghost use Rattle.machine.specs.declared.Stray.{Stray};
 ghost use Rattle.machine.specs.declared.Answer.the-variants.{Exchanged};
 ghost use Rattle.machine.specs.Word.{bits};
 ghost use Rattle.machine.specs.State.{sharing};
@@ -131,8 +132,8 @@ pub fn load_package(r: &mut [u64], mem: &[u64], package: u64)
 pub fn swap(r: &mut [u64], mem: &mut [u64], p: ParcelAddr, flags: u64)
     requires { ⌜ (length (now r) ≡ 672) × (4096 ≤ length (now mem)) × (p .0 < 2 ^ 24) × (flags < 512) ⌝ }
     requires { ⌜ FrameOk (frameOf (now r)) × ControlOk (registersOf (now r)) ⌝ }
-    ensures { λ _. ⌜ out (Exchanged flags) (stateOf (now (r .exit))) (sharing (now (mem .exit)))
-        ≡ exchange (frameOf (now (r .entry))) (registersOf (now (r .entry))) (p .0) flags (sharing (now (mem .entry))) ⌝ }
+    ensures { λ _. ⌜ ((s : Stray) → out (Exchanged flags) s (stateOf (now (r .exit))) (sharing (now (mem .exit)))
+        ≡ exchange (frameOf (now (r .entry))) (registersOf (now (r .entry))) (p .0) flags s (sharing (now (mem .entry)))) ⌝ }
 {
     let old = saved_words(r, p, flags);
     let new = access::words::sixteen(mem, chosen(old), false);

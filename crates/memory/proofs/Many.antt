@@ -4,52 +4,72 @@ use mathlib.Core.Path.{_≡_, refl, sym, _∙_, ap, subst, fun-ext}
 use mathlib.Core.Bool.{Bool, true, false}
 use mathlib.Core.List.{List}
 use native.Mathlib.Omega.{arith}
-use lib.ListN.{length, getD}
-use Rattle.machine.specs.declared.Place.{Place}
+use borrow.Author.Tests.{lt-ltb, le-ltb}
+use lib.ListN.{length, getD, set}
+use lib.Seq.{getD-set-same}
+use lib.Dec.{ltb}
 use Rattle.machine.specs.Word.{pick}
 use Rattle.machine.specs.Parcel.{iOf, jOf, kOf, jkOf}
 use Rattle.machine.specs.State.{Registers, user, ai, ak, el, Put, ToBs, ToTs, ToV, apply}
-use Rattle.machine.specs.Memory.{dataField, loadAt, load, anyOutside}
+use Rattle.machine.specs.Memory.{dataField, placeOf, load, firstOutside}
 use Rattle.machine.specs.Act.{Instr, Reads, Writes, ReadB, StoreB, ReadT, StoreT, LoadV, StoreV, act}
 use Rattle.machine.specs.Codes.{One, codeOf}
+use Rattle.machine.specs.Work.{outside}
 use Rattle.machine.specs.Layout.{registersOf, frameOf}
-use Rattle.access.specs.Executed.{Puts, cutTo, ringAt}
+use Rattle.access.specs.Window.{Spot, spotOf, loadIn}
+use Rattle.access.specs.Executed.{blockCount, blockBy, told, Puts, endedBy, noted, cutTo, ringAt}
 use Rattle.access.proofs.Leaf.{actAt, one}
-use Rattle.access.proofs.Places.{to-elements, el-at}
+use Rattle.access.proofs.Places.{p-puts, to-elements, el-at}
 use Rattle.access.proofs.Rings.{bs-of, ts-of, ring-b, ring-t, ring-fill}
 use Rattle.memory.specs.Moves.{Window, rowIn, anyBeyond, storesAt, ReadRow, StoredRow, Moved}
-use Rattle.memory.proofs.Fields.{row-of, any-outside, all-stored, reads, writes}
+use Rattle.memory.proofs.Fields.{row-of, load-spot, any-outside, all-stored, Tells, tells, reads, writes}
 
 -- an instruction of one parcel that moves a row of `count` words
 module _ (n : Instr) (count by : ℕ) (r mem : List ℕ) (first words x : ℕ) (o : Bool)
     (h : Window (frameOf r) first words (length mem)) (held : codeOf (user (frameOf r)) x ≡ One n)
-    (told : o ≡ anyBeyond (rowIn first words (ai (registersOf r) 0) by) count) where
+    (has : (count ≡ blockCount (registersOf r) x) × (by ≡ blockBy (registersOf r) x))
+    (beyond : o ≡ anyBeyond (rowIn first words (ai (registersOf r) 0) by) count) where
   abbrev at : ℕ → ℕ
   at e = ai (registersOf r) 0 + e * by
 
-  -- whether one lies outside
-  beyond : o ≡ anyOutside (dataField (frameOf r)) at (length mem) count
-  beyond =
-      told ∙ ap (λ (row : ℕ → Place). anyBeyond row count) (row-of (frameOf r) first words (length mem) h (ai (registersOf r) 0) by)
-      ∙ any-outside (dataField (frameOf r)) at (length mem) count
+  -- it ended as its stray has it, and P's place tells the move: the words that say where its operands were are as before
+  row-told : (r′ : List ℕ) → length r′ ≡ 672 → frameOf r′ ≡ frameOf r → registersOf r′ .a ≡ registersOf r .a → registersOf r′ .vl ≡ registersOf r .vl
+      → Tells (endedBy 1 o) 1 r′ (noted o x r′) (length mem) (firstOutside (dataField (frameOf r)) at (length mem) count)
+  row-told r′ long f a v =
+      let one = beyond ∙ ap (λ (row : ℕ → Spot). anyBeyond row count) (row-of (frameOf r) first words (length mem) h (ai (registersOf r) 0) by)
+      ∙ any-outside (dataField (frameOf r)) at (length mem) count in
+      tells 1 o x r′ (length mem) _ one
+      (rw (p-puts r′ x .0, p-puts r′ x .1, getD-set-same r′ 0 x 0 (omega arith), f, a, v, has .0, has .1))
 
-  -- they are read, and a register is written that is not IOR
-  row-read : (put : (ℕ → ℕ) → Put) (r′ : List ℕ) → ((p : ℕ) → actAt r p x 0 1 n ≡ Reads count at put)
-      → ((f : ℕ → ℕ) → apply (put f) (registersOf r) .ior ≡ registersOf r .ior)
-      → Puts r r′ (put (λ e. loadAt mem (rowIn first words (ai (registersOf r) 0) by e))) → Moved o r r′ mem mem x
-  unfolding load
-  row-read put r′ a i k p w e =
-      let t = subst (λ (row : ℕ → Place). Puts r r′ (put (λ e. loadAt mem (row e))))
-      (row-of (frameOf r) first words (length mem) h (ai (registersOf r) 0) by) k in
-      one w r r′ mem mem p x n held (k .frame) (rw (a p) (reads w r r′ mem 1 count at put o e t (i (λ e. load (dataField (frameOf r)) mem (at e))) beyond))
+  -- they are read, and a register is written that is neither A nor VL
+  row-read : (put : (ℕ → ℕ) → Put) (r′ : List ℕ) → length r′ ≡ 672 → ((p : ℕ) → actAt r p x 0 1 n ≡ Reads count at put)
+      → ((f : ℕ → ℕ) → (apply (put f) (registersOf r) .a ≡ registersOf r .a) × (apply (put f) (registersOf r) .vl ≡ registersOf r .vl))
+      → Puts r r′ (put (λ e. loadIn mem (rowIn first words (ai (registersOf r) 0) by e))) → Moved o r r′ mem mem x
+  unfolding load outside
+  row-read put r′ long a i k =
+      let same : _≡_ {A = ℕ → ℕ} (λ e. loadIn mem (rowIn first words (ai (registersOf r) 0) by e)) (λ e. load (dataField (frameOf r)) mem (at e))
+      = ap {B = ℕ → ℕ} (λ row e. loadIn mem (row e)) (row-of (frameOf r) first words (length mem) h (ai (registersOf r) 0) by)
+      ∙ fun-ext (λ e. load-spot mem (placeOf (dataField (frameOf r)) (length mem) (at e))) in
+      let t = subst (λ (f : ℕ → ℕ). Puts r r′ (put f)) same k in
+      let u = i (λ e. load (dataField (frameOf r)) mem (at e)) in
+      let s = row-told r′ long (t .frame) (ap (λ (q : Registers). q .a) (t .registers) ∙ u .0) (ap (λ (q : Registers). q .vl) (t .registers) ∙ u .1) in
+      record {
+        executes = λ p. one (endedBy 1 o) r (noted o x r′) mem mem p x n held (s .frame ∙ t .frame)
+            (rw (a p) (reads (endedBy 1 o) r r′ (noted o x r′) mem 1 count at put s t));
+      }
 
   -- they are stored
-  row-stored : (val : ℕ → ℕ) (mem′ : List ℕ) → ((p : ℕ) → actAt r p x 0 1 n ≡ Writes count at val)
+  row-stored : (val : ℕ → ℕ) (mem′ : List ℕ) → length r ≡ 672 → ((p : ℕ) → actAt r p x 0 1 n ≡ Writes count at val)
       → mem′ ≡ storesAt (rowIn first words (ai (registersOf r) 0) by) val count mem → Moved o r r mem mem′ x
-  row-stored val mem′ a k p w e =
-      let t = k ∙ ap (λ (row : ℕ → Place). storesAt row val count mem) (row-of (frameOf r) first words (length mem) h (ai (registersOf r) 0) by)
+  unfolding outside
+  row-stored val mem′ long a k =
+      let t = k ∙ ap (λ (row : ℕ → Spot). storesAt row val count mem) (row-of (frameOf r) first words (length mem) h (ai (registersOf r) 0) by)
       ∙ all-stored (dataField (frameOf r)) at val count mem in
-      one w r r mem mem′ p x n held refl (rw (a p) (writes w r mem mem′ 1 count at val o e t beyond))
+      let s = row-told r long refl refl refl in
+      record {
+        executes = λ p. one (endedBy 1 o) r (noted o x r) mem mem′ p x n held (s .frame)
+            (rw (a p) (writes (endedBy 1 o) r (noted o x r) mem mem′ 1 count at val s t));
+      }
 
 -- the next address is one more
 by-one : (a : ℕ) → _≡_ {A = ℕ → ℕ} (λ e. a + e * 1) (λ e. a + e)
@@ -98,11 +118,19 @@ unfolding act
 stored-act true r status x m past = rw (by-one (ai r 0))
 stored-act false r status x m past = rw (by-one (ai r 0))
 
--- what the registers come to
-block-ior : (b : Bool) (jk n : ℕ) (f : ℕ → ℕ) (r : Registers) → apply (toBlock b jk n f) r .ior ≡ r .ior
+-- what the registers come to: A and VL stay
+block-kept : (b : Bool) (jk n : ℕ) (f : ℕ → ℕ) (r : Registers) → (apply (toBlock b jk n f) r .a ≡ r .a) × (apply (toBlock b jk n f) r .vl ≡ r .vl)
 unfolding apply
-block-ior true jk n f r = refl
-block-ior false jk n f r = refl
+block-kept true jk n f r = (refl, refl)
+block-kept false jk n f r = (refl, refl)
+
+-- how many words, and how far apart: 034 to 037 are below 100
+low-code : (b : Bool) (c u v : ℕ) → c ≡ pick b u v → u < 64 → v < 64 → c < 64
+low-code true c u v e k l = omega arith
+low-code false c u v e k l = omega arith
+
+block-has : (r : Registers) (x : ℕ) → x / 512 < 64 → (ai r (iOf x) % 128 ≡ blockCount r x) × (1 ≡ blockBy r x)
+block-has r x l = rw (lt-ltb (x / 512) 64 l) (refl, refl)
 
 block-puts : (b : Bool) (r r′ : List ℕ) (jk n : ℕ) (f : ℕ → ℕ) → r′ ≡ ringAt (pick b 32 96) jk (λ e. cutTo b (f e)) n r → Puts r r′ (toBlock b jk n f)
 block-puts true r r′ jk n f e = bs-of r jk (λ i. f i % 2 ^ 24) r′ n e
@@ -118,44 +146,50 @@ module _ (b : Bool) (r mem : List ℕ) (first words x : ℕ) (o : Bool) (h : Win
   count = ai (registersOf r) (iOf x) % 128
 
   -- so the block was moved
-  pub block-read : (r′ : List ℕ) → x / 512 ≡ pick b 0o034 0o036
+  pub block-read : (r′ : List ℕ) → length r′ ≡ 672 → x / 512 ≡ pick b 0o034 0o036
       → ReadRow r r′ mem first words (ai (registersOf r) 0) 1 (pick b 32 96) (jkOf x) count b o → Moved o r r′ mem mem x
-  block-read r′ e g =
-      row-read (blockRead b) count 1 r mem first words x o h (read-code b (user (frameOf r)) x e) (g .beyond) (toBlock b (jkOf x) count) r′
-      (λ p. read-act b (registersOf r) _ x 0 _) (λ f. block-ior b (jkOf x) count f (registersOf r)) (block-puts b r r′ (jkOf x) count _ (g .became))
+  block-read r′ long e g =
+      row-read (blockRead b) count 1 r mem first words x o h (read-code b (user (frameOf r)) x e) (block-has (registersOf r) x (low-code b (x / 512) 0o034 0o036 e (omega arith) (omega arith)))
+      (g .beyond) (toBlock b (jkOf x) count) r′ long
+      (λ p. read-act b (registersOf r) _ x 0 _) (λ f. block-kept b (jkOf x) count f (registersOf r)) (block-puts b r r′ (jkOf x) count _ (g .became))
 
-  pub block-stored : (mem′ : List ℕ) → x / 512 ≡ pick b 0o035 0o037
+  pub block-stored : (mem′ : List ℕ) → length r ≡ 672 → x / 512 ≡ pick b 0o035 0o037
       → StoredRow r mem mem′ first words (ai (registersOf r) 0) 1 (pick b 32 96) (jkOf x) count o → Moved o r r mem mem′ x
-  block-stored mem′ e g =
-      row-stored (blockStored b) count 1 r mem first words x o h (stored-code b (user (frameOf r)) x e) (g .beyond) (fromBlock b (registersOf r) (jkOf x)) mem′
+  block-stored mem′ long e g =
+      row-stored (blockStored b) count 1 r mem first words x o h (stored-code b (user (frameOf r)) x e) (block-has (registersOf r) x (low-code b (x / 512) 0o035 0o037 e (omega arith) (omega arith)))
+      (g .beyond) (fromBlock b (registersOf r) (jkOf x)) mem′ long
       (λ p. stored-act b (registersOf r) _ x 0 _)
       (g .became ∙ ap (λ (val : ℕ → ℕ). storesAt (rowIn first words (ai (registersOf r) 0) 1) val count mem) (block-from b r (jkOf x)))
 
 -- only the first n values matter
-stores-same : (at : ℕ → Place) (f g : ℕ → ℕ) (n : ℕ) (mem : List ℕ) → ((e : ℕ) → e < n → f e ≡ g e) → storesAt at f n mem ≡ storesAt at g n mem
+stores-same : (at : ℕ → Spot) (f g : ℕ → ℕ) (n : ℕ) (mem : List ℕ) → ((e : ℕ) → e < n → f e ≡ g e) → storesAt at f n mem ≡ storesAt at g n mem
 unfolding storesAt
 stores-same at f g zero mem h = refl
 stores-same at f g (suc n) mem h = rw (stores-same at f g n mem (λ e l. h e (omega arith)), h n (omega arith))
 
 -- 176 and 177: the elements of a V register
 module _ (r mem : List ℕ) (first words x : ℕ) (o : Bool) (h : Window (frameOf r) first words (length mem)) (short : registersOf r .vl ≤ 64) where
-  pub vector-read : (r′ : List ℕ) → x / 512 ≡ 0o176 → jOf x ≡ 0
+  vector-has : 64 ≤ x / 512 → (registersOf r .vl ≡ blockCount (registersOf r) x) × (ak (registersOf r) (kOf x) ≡ blockBy (registersOf r) x)
+  vector-has l = rw (le-ltb (x / 512) 64 l) (refl, refl)
+
+  pub vector-read : (r′ : List ℕ) → length r′ ≡ 672 → x / 512 ≡ 0o176 → jOf x ≡ 0
       → ReadRow r r′ mem first words (ai (registersOf r) 0) (ak (registersOf r) (kOf x)) (160 + iOf x * 64) 0 (registersOf r .vl) false o
       → Moved o r r′ mem mem x
   unfolding codeOf act apply
-  vector-read r′ e z g =
-      let f : ℕ → ℕ = λ i. loadAt mem (rowIn first words (ai (registersOf r) 0) (ak (registersOf r) (kOf x)) i) in
+  vector-read r′ long e z g =
+      let f : ℕ → ℕ = λ i. loadIn mem (rowIn first words (ai (registersOf r) 0) (ak (registersOf r) (kOf x)) i) in
       let s : 160 + iOf x * 64 + 0 ≡ 160 + iOf x * 64 = omega arith in
       let k = rw (ring-fill (160 + iOf x * 64) 0 f r (registersOf r .vl) (omega arith), s) at (g .became) in
-      row-read LoadV (registersOf r .vl) (ak (registersOf r) (kOf x)) r mem first words x o h (rw (e, z)) (g .beyond) (λ word. ToV (iOf x) word) r′
-      (λ p. refl) (λ f. refl) (to-elements r r′ (iOf x) f (registersOf r .vl) (omega arith) short refl k)
+      row-read LoadV (registersOf r .vl) (ak (registersOf r) (kOf x)) r mem first words x o h (rw (e, z)) (vector-has (omega (arith, e))) (g .beyond)
+      (λ word. ToV (iOf x) word) r′ long
+      (λ p. refl) (λ f. (refl, refl)) (to-elements r r′ (iOf x) f (registersOf r .vl) (omega arith) short refl k)
 
-  pub vector-stored : (mem′ : List ℕ) → x / 512 ≡ 0o177 → iOf x ≡ 0
+  pub vector-stored : (mem′ : List ℕ) → length r ≡ 672 → x / 512 ≡ 0o177 → iOf x ≡ 0
       → StoredRow r mem mem′ first words (ai (registersOf r) 0) (ak (registersOf r) (kOf x)) (160 + jOf x * 64) 0 (registersOf r .vl) o → Moved o r r mem mem′ x
   unfolding codeOf act
-  vector-stored mem′ e z g =
-      row-stored StoreV (registersOf r .vl) (ak (registersOf r) (kOf x)) r mem first words x o h (rw (e, z)) (g .beyond)
-      (λ i. el (registersOf r .v) (jOf x) i) mem′
+  vector-stored mem′ long e z g =
+      row-stored StoreV (registersOf r .vl) (ak (registersOf r) (kOf x)) r mem first words x o h (rw (e, z)) (vector-has (omega (arith, e))) (g .beyond)
+      (λ i. el (registersOf r .v) (jOf x) i) mem′ long
       (λ p. refl) (g .became ∙ stores-same _ _ _ (registersOf r .vl) mem same)
     where
       same : (i : ℕ) → i < registersOf r .vl → getD r (160 + jOf x * 64 + (0 + i) % 64) 0 ≡ el (registersOf r .v) (jOf x) i

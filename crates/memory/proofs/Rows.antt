@@ -5,26 +5,24 @@ use mathlib.Core.Bool.{Bool, true, false, _&&_, _||_}
 use mathlib.Core.List.{List}
 use native.Mathlib.Numerals.{add-one}
 use native.Mathlib.Omega.{arith}
-use borrow.Author.Tests.{eqb-true, leb-true, ltb-true, lt-ltb}
-use lib.Dec.{eqb, leb, ltb}
+use borrow.Author.Tests.{eqb-true, leb-true, lt-ltb, le-ltb}
+use lib.Dec.{eqb, leb}
 use lib.ListN.{getD}
-use Rattle.machine.specs.declared.Place.{Place}
-use Rattle.machine.specs.declared.Place.the-variants.{At, Beyond}
 use Rattle.machine.specs.Word.{pick}
 use Rattle.machine.specs.State.{fill}
-use Rattle.machine.specs.Memory.{isBeyond, loadAt, storeAt}
-use Rattle.access.specs.Window.{placeIn}
+use Rattle.access.specs.Window.{Spot, At, Beyond, isBeyond, loadIn, storeIn, placeIn}
 use Rattle.access.specs.Executed.{cutTo, ringAt}
 use Rattle.memory.specs.Moves.{Held, rowIn, anyBeyond, storesAt, straightOf}
 
--- a place in a window is one of the memory
-pub place-inside : (first words len n at : ℕ) → Held first words len → placeIn first words n ≡ At at → at < len
-unfolding placeIn
-place-inside first words len n at h e = go (ltb (n % 2 ^ 22) words) refl e
-  where
-    go : (t : Bool) → ltb (n % 2 ^ 22) words ≡ t → pick t (At (first + n % 2 ^ 22)) Beyond ≡ At at → at < len
-    go true l e = let z : first + n % 2 ^ 22 ≡ at = cc in omega (arith, h .inside (n % 2 ^ 22) (ltb-true (n % 2 ^ 22) words l))
-    go false l e = let z : _≡_ {A = ℕ} 0 1 = cc in omega arith
+-- an address whose low 22 bits are w: in a window, and beyond it
+module _ (first words n w : ℕ) (low : w ≡ n % 2 ^ 22) where
+  pub place-in : w < words → placeIn first words n ≡ At (first + w)
+  unfolding placeIn
+  place-in l = rw (← low, lt-ltb w words l)
+
+  pub place-out : words ≤ w → placeIn first words n ≡ Beyond
+  unfolding placeIn
+  place-out l = rw (← low, le-ltb w words l)
 
 -- only the low 22 bits of an address count
 pub same-place : (first words n address : ℕ) → n % 2 ^ 22 ≡ address % 2 ^ 22 → placeIn first words n ≡ placeIn first words address
@@ -36,11 +34,11 @@ pub next-address : (at from e by : ℕ) → at % 2 ^ 22 ≡ (from + e * by) % 2 
 next-address at from e by h = omega arith
 
 -- one word more
-pub beyond-turn : (at : ℕ → Place) (e : ℕ) (o b : Bool) → o ≡ anyBeyond at e → b ≡ isBeyond (at e) → (o || b) ≡ anyBeyond at (e + 1)
+pub beyond-turn : (at : ℕ → Spot) (e : ℕ) (o b : Bool) → o ≡ anyBeyond at e → b ≡ isBeyond (at e) → (o || b) ≡ anyBeyond at (e + 1)
 unfolding anyBeyond
 beyond-turn at e o b p q = rw add-one (rw (p, q))
 
-pub stores-turn : (at : ℕ → Place) (val : ℕ → ℕ) (e : ℕ) (m₀ m m′ : List ℕ) → m ≡ storesAt at val e m₀ → m′ ≡ storeAt m (at e) (val e)
+pub stores-turn : (at : ℕ → Spot) (val : ℕ → ℕ) (e : ℕ) (m₀ m m′ : List ℕ) → m ≡ storesAt at val e m₀ → m′ ≡ storeIn m (at e) (val e)
     → m′ ≡ storesAt at val (e + 1) m₀
 unfolding storesAt
 stores-turn at val e m₀ m m′ p q = rw add-one (rw (q, p))
@@ -63,14 +61,14 @@ fill-ring at reg f g (suc n) l h k =
     let i : at + (reg + n) % 64 ≡ at + reg + n = omega arith in
     rw (i, fill-ring at reg f g n l (omega arith) (λ e t. k e (omega arith)), k n (omega arith))
 
-fill-row : (first : ℕ) (at : ℕ → Place) (f g : ℕ → ℕ) (n : ℕ) (l : List ℕ) → ((e : ℕ) → e < n → at e ≡ At (first + e)) → ((e : ℕ) → e < n → f e ≡ g e)
+fill-row : (first : ℕ) (at : ℕ → Spot) (f g : ℕ → ℕ) (n : ℕ) (l : List ℕ) → ((e : ℕ) → e < n → at e ≡ At (first + e)) → ((e : ℕ) → e < n → f e ≡ g e)
     → fill first f n l ≡ storesAt at g n l
 unfolding fill storesAt
 fill-row first at f g zero l h k = refl
 fill-row first at f g (suc n) l h k =
     rw (fill-row first at f g n l (λ e t. h e (omega arith)) (λ e t. k e (omega arith)), h n (omega arith), k n (omega arith))
 
-none-beyond : (first : ℕ) (at : ℕ → Place) (n : ℕ) → ((e : ℕ) → e < n → at e ≡ At (first + e)) → anyBeyond at n ≡ false
+none-beyond : (first : ℕ) (at : ℕ → Spot) (n : ℕ) → ((e : ℕ) → e < n → at e ≡ At (first + e)) → anyBeyond at n ≡ false
 unfolding anyBeyond
 none-beyond first at zero h = refl
 none-beyond first at (suc n) h = rw (none-beyond first at n (λ e t. h e (omega arith)), h n (omega arith))
@@ -126,9 +124,9 @@ module _ (first words reg n from by m : ℕ) (short : words ≤ 2 ^ 22) (s : Str
 
   -- what a copy of them makes of a processor's words, and of memory
   pub straight-read : (file : ℕ) (narrow : Bool) (mem r r′ : List ℕ) → r′ ≡ fill (file + reg) (λ e. cutTo narrow (getD mem (first + from % 2 ^ 22 + e) 0)) m r
-      → r′ ≡ ringAt file reg (λ e. cutTo narrow (loadAt mem (rowIn first words from by e))) m r
+      → r′ ≡ ringAt file reg (λ e. cutTo narrow (loadIn mem (rowIn first words from by e))) m r
   straight-read file narrow mem r r′ e =
-      e ∙ fill-ring file reg _ (λ i. cutTo narrow (loadAt mem (rowIn first words from by i))) m r (s .registers) (λ i l. rw (straight-place i l))
+      e ∙ fill-ring file reg _ (λ i. cutTo narrow (loadIn mem (rowIn first words from by i))) m r (s .registers) (λ i l. rw (straight-place i l))
 
   pub straight-stored : (file : ℕ) (r mem mem′ : List ℕ) → mem′ ≡ fill (first + from % 2 ^ 22) (λ e. getD r (file + reg + e) 0) m mem
       → mem′ ≡ storesAt (rowIn first words from by) (λ e. getD r (file + (reg + e) % 64) 0) m mem

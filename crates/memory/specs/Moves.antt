@@ -5,15 +5,11 @@ use mathlib.Core.Bool.{Bool, false, _&&_, _||_}
 use mathlib.Core.List.{List}
 use lib.Dec.{eqb, leb}
 use lib.ListN.{getD}
-use Rattle.machine.specs.declared.Place.{Place}
-use Rattle.machine.specs.declared.Work.{Work}
 use Rattle.machine.specs.Word.{pick}
-use Rattle.machine.specs.State.{Registers, Frame, user, ai, si, Put, ToA, ToS}
-use Rattle.machine.specs.Memory.{isBeyond, loadAt, storeAt}
-use Rattle.machine.specs.Work.{ranged}
+use Rattle.machine.specs.State.{Registers, Frame, ai, si, Put, ToA, ToS}
 use Rattle.machine.specs.Layout.{registersOf, frameOf}
-use Rattle.access.specs.Window.{extent, Inside, placeIn}
-use Rattle.access.specs.Executed.{Executes, cutTo, ringAt}
+use Rattle.access.specs.Window.{extent, Inside, Spot, isBeyond, loadIn, storeIn, placeIn}
+use Rattle.access.specs.Executed.{Executes, endedBy, noted, cutTo, ringAt}
 use Rattle.memory.specs.declared.File.{File}
 use Rattle.memory.specs.declared.File.the-variants.{A, S}
 
@@ -49,22 +45,22 @@ pub record Held (first words len : ℕ) : Type 0 where
   pub short : words ≤ 2 ^ 22
 
 -- the places of the addresses from, from + by, from + 2 by, ..
-abbrev pub rowIn : ℕ → ℕ → ℕ → ℕ → (ℕ → Place)
+abbrev pub rowIn : ℕ → ℕ → ℕ → ℕ → (ℕ → Spot)
 rowIn first words from by = λ e. placeIn first words (from + e * by)
 
 -- one of the first n places is outside
-unfoldable pub anyBeyond : (ℕ → Place) → ℕ → Bool
+unfoldable pub anyBeyond : (ℕ → Spot) → ℕ → Bool
 anyBeyond at zero = false
 anyBeyond at (suc n) = anyBeyond at n || isBeyond (at n)
 
 -- n words stored, rising: word e is `val e`, at the place `at e`
-unfoldable pub storesAt : (ℕ → Place) → (ℕ → ℕ) → ℕ → List ℕ → List ℕ
+unfoldable pub storesAt : (ℕ → Spot) → (ℕ → ℕ) → ℕ → List ℕ → List ℕ
 storesAt at val zero mem = mem
-storesAt at val (suc n) mem = storeAt (storesAt at val n mem) (at n) (val n)
+storesAt at val (suc n) mem = storeIn (storesAt at val n mem) (at n) (val n)
 
 -- from r to r′ n registers of the file at a place, from `reg` on, were read from a row of words; o says whether one lay outside
 pub record ReadRow (r r′ mem : List ℕ) (first words from by file reg n : ℕ) (narrow o : Bool) : Type 0 where
-  pub became : r′ ≡ ringAt file reg (λ e. cutTo narrow (loadAt mem (rowIn first words from by e))) n r
+  pub became : r′ ≡ ringAt file reg (λ e. cutTo narrow (loadIn mem (rowIn first words from by e))) n r
   pub beyond : o ≡ anyBeyond (rowIn first words from by) n
 
 -- from mem to mem′ they were stored
@@ -78,6 +74,5 @@ unfoldable pub straightOf : ℕ → ℕ → ℕ → ℕ → ℕ → ℕ
 straightOf words reg n from by = pick (eqb by 1 && leb (reg + n) 64 && leb (from % 2 ^ 22 + n) words) (n - n % 16) 0
 
 -- from r to r′ and from mem to mem′ the block move x was made, however it ends: `outside` says whether a word lay outside
-abbrev pub Moved : Bool → List ℕ → List ℕ → List ℕ → List ℕ → ℕ → Type 0
-Moved outside r r′ mem mem′ x =
-    (p : ℕ) (w : Work) → w ≡ ranged (user (frameOf r′)) (registersOf r′ .ior) 1 outside → Executes w r r′ mem mem′ p x
+pub record Moved (outside : Bool) (r r′ mem mem′ : List ℕ) (x : ℕ) : Type 0 where
+  pub executes : (p : ℕ) → Executes (endedBy 1 outside) r (noted outside x r′) mem mem′ p x

@@ -4,7 +4,7 @@ ghost use Prim.Native.Nat.{_+_, _*_, _/_, _^_, _<_, _≤_};
 ghost use lib.ListN.{length, getD};
 ghost use Rattle.machine.specs.Memory.{dataField, firstOutside};
 ghost use Rattle.machine.specs.Layout.{frameOf, registersOf};
-ghost use Rattle.access.specs.Executed.{blockCount, blockBy, blockStray, told};
+ghost use Rattle.access.specs.Executed.{blockCount, blockBy, told};
 use machine::Place;
 use machine::Stray;
 use machine::Work;

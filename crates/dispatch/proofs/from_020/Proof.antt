@@ -2,7 +2,7 @@ use native.Mathlib.Omega.{arith}
 use mathlib.Core.Path.{refl}
 use borrow.Author.Needs.{needs}
 use Rattle.memory.proofs.Fields.{reached}
-use Rattle.dispatch.proofs.Arms.{alone, past-020}
+use Rattle.dispatch.proofs.Arms.{alone, past-020, moved-ends}
 use Rattle.dispatch.proofs.from_020.Statement.{statement}
 use Rattle.dispatch.proofs.from_020.Tie as tie
 
@@ -61,16 +61,16 @@ from-020-spec =
     (λ c. c .before .before .product .ensures _ _)
     (λ c. search needs)
     (λ c. search needs)
-    (λ c. c .before .before .before .before .read-b .ensures _ _ (c .moved .ensures))
+    (λ c. moved-ends _ _ _ _ _ _ _ _ (c .before .before .before .before .before .before .read-b .ensures) (c .before .before .moved .ensures) _)
     (λ c. search needs)
     (λ c. search needs)
-    (λ c. c .before .before .before .before .store-b .ensures _ _ (c .moved2 .ensures))
+    (λ c. moved-ends _ _ _ _ _ _ _ _ (c .before .before .before .before .before .before .store-b .ensures) (c .before .before .moved2 .ensures) _)
     (λ c. search needs)
     (λ c. search needs)
-    (λ c. c .before .before .before .before .read-t .ensures _ _ (c .moved3 .ensures))
+    (λ c. moved-ends _ _ _ _ _ _ _ _ (c .before .before .before .before .before .before .read-t .ensures) (c .before .before .moved3 .ensures) _)
     (λ c. search needs)
     (λ c. search needs)
-    (λ c. c .before .before .before .before .store-t .ensures _ _ (c .moved4 .ensures))
+    (λ c. moved-ends _ _ _ _ _ _ _ _ (c .before .before .before .before .before .before .store-t .ensures) (c .before .before .moved4 .ensures) _)
     (λ c. search needs)
     (λ c. search needs)
     (λ c. c .before .before .before .before .from-040 .ensures))

@@ -2,6 +2,7 @@ use borrow.Author.Tests.{ne-eqb}
 use Rattle.machine.specs.Codes.{codeOf}
 use Rattle.memory.proofs.Fields.{reached}
 use Rattle.access.proofs.Leaf.{not-held}
+use Rattle.dispatch.proofs.Arms.{moved-ends}
 use borrow.Author.Needs.{needs}
 use Rattle.dispatch.proofs.read_v.Statement.{statement}
 use Rattle.dispatch.proofs.read_v.Tie as tie
@@ -14,8 +15,8 @@ returns c =
 
 returns-2 : tie.Need-returns-2
 returns-2 c =
-    let read-v = c .before .before .before .before .read-v in
-    λ p. read-v .ensures p _ (c .moved .ensures)
+    let read-v = c .before .before .before .before .before .before .read-v in
+    moved-ends _ _ _ _ _ _ _ _ (read-v .ensures) (c .before .before .moved .ensures)
 
 pub read-v-spec : {M : Type 1} → statement M
 read-v-spec =

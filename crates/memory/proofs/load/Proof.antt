@@ -33,15 +33,17 @@ get-requires c κs =
 
 returns-2 : tie.Need-returns-2
 returns-2 c =
-    let set = c .before .before .before .before .set in
-    let get = c .before .before .before .before .before .before .get in
-    let indexed = c .before .before .before .before .before .before .before .indexed in
-    let the-m = c .before .before .before .before .before .before .before .before .before .before .m in
-    let fetch = c .before .before .before .before .before .before .before .before .before .before .before .before .fetch in
-    let on = c .before .before .before .before .before .before .before .before .before .before .before .before .before .on in
-    let start = c .before .before .before .before .before .before .before .before .before .before .before .before .before .before .before .before in
+    let ended = c .before .before .ended in
+    let set = c .before .before .before .before .before .before .set in
+    let get = c .before .before .before .before .before .before .before .before .get in
+    let indexed = c .before .before .before .before .before .before .before .before .before .indexed in
+    let the-m = c .before .before .before .before .before .before .before .before .before .before .before .before .m in
+    let fetch = c .before .before .before .before .before .before .before .before .before .before .before .before .before .before .fetch in
+    let on = c .before .before .before .before .before .before .before .before .before .before .before .before .before .before .before .on in
+    let start = c .before .before .before .before .before .before .before .before .before .before .before .before .before .before .before
+    .before .before .before in
     loaded (start .args .file) _ _ _ _ _ _ _ _ _ (start .pre .1) (second _ _ _ _ _ (on .ensures) (fetch .ensures) _ _ (start .pre .1) (the-m .given .1))
-    (indexed .ensures) (get .ensures .1) _ _ (start .pre .0 .1) (get .ensures .0) (set .ensures) (c .ended .ensures)
+    (indexed .ensures) (get .ensures .1) _ _ _ (start .pre .0 .1) (get .ensures .0) (set .ensures) (search needs) (ended .ensures)
 
 pub load-spec : {M : Type 1} → statement M
 load-spec =

@@ -13,11 +13,11 @@ fetch-requires c κs =
 
 returns : tie.Need-returns
 returns c =
-    let fetch = c .before .before .before .fetch in
-    let on = c .before .before .before .before .on in
-    let start = c .before .before .before .before .before .before .before .before in
+    let fetch = c .before .before .before .before .fetch in
+    let on = c .before .before .before .before .before .on in
+    let start = c .before .before .before .before .before .before .before .before .before in
     lost _ _ _ _ _ (storing (start .args .file)) (store-code (start .args .file) _ _ (start .pre .0 .1))
-    (second _ _ _ _ _ (on .ensures) (fetch .ensures) _ _ (start .pre .1) (c .before .enum-told .given .1)) (c .no-parcel .ensures)
+    (second _ _ _ _ _ (on .ensures) (fetch .ensures) _ _ (start .pre .1) (c .before .before .enum-told .given .1)) (c .no-parcel .ensures)
 
 indexed-requires : tie.Need-indexed-requires
 indexed-requires c κs =
@@ -28,23 +28,25 @@ indexed-requires c κs =
 
 put-requires : tie.Need-put-requires
 put-requires c κs =
-    let start = c .before .before .before .before .before .before .before .before .before .before .before in
+    let start = c .before .before .before .before .before .before .before .before .before .before .before .before .before in
     held _ _ _ _ (reached _ _ _ (start .pre .1))
 
 returns-2 : tie.Need-returns-2
 returns-2 c =
-    let put = c .before .before .before .put in
-    let register = c .before .before .before .before .register in
-    let indexed = c .before .before .before .before .before .indexed in
-    let the-m = c .before .before .before .before .before .before .before .before .m in
-    let fetch = c .before .before .before .before .before .before .before .before .before .before .fetch in
-    let on = c .before .before .before .before .before .before .before .before .before .before .before .on in
-    let start = c .before .before .before .before .before .before .before .before .before .before .before .before .before .before .before in
+    let ended = c .before .before .ended in
+    let put = c .before .before .before .before .before .before .put in
+    let register = c .before .before .before .before .before .before .before .before .register in
+    let indexed = c .before .before .before .before .before .before .before .before .before .before .indexed in
+    let the-m = c .before .before .before .before .before .before .before .before .before .before .before .before .before .m in
+    let fetch = c .before .before .before .before .before .before .before .before .before .before .before .before .before .before .before .fetch in
+    let on = c .before .before .before .before .before .before .before .before .before .before .before .before .before .before .before .before .on in
+    let start = c .before .before .before .before .before .before .before .before .before .before .before .before .before .before .before
+    .before .before .before .before .before in
     stored (start .args .file) _ _ _ _ _ _ _ _ _ (start .pre .1) (second _ _ _ _ _ (on .ensures) (fetch .ensures) _ _ (start .pre .1) (the-m .given .1))
-    (indexed .ensures) (put .ensures .1) _ (start .pre .0 .1) (rw (register .ensures) at (put .ensures .0)) (c .ended .ensures)
+    (indexed .ensures) (put .ensures .1) _ _ (start .pre .0 .1) (rw (register .ensures) at (put .ensures .0)) (start .pre .0 .0) (ended .ensures)
 
 pub store-spec : {M : Type 1} → statement M
 store-spec =
     tie.close (tie.spec (λ c κs. search needs) fetch-requires (λ c. search needs) (λ c. search needs)
-    (λ c κs. search needs) (λ c. search needs) returns indexed-requires (λ c κs. search needs) put-requires
-    (λ c κs. search needs) (λ c. search needs) returns-2)
+    (λ c κs. search needs) (λ c. search needs) (λ c. search needs) returns indexed-requires (λ c κs. search needs) put-requires
+    (λ c κs. search needs) (λ c. search needs) (λ c. search needs) returns-2)

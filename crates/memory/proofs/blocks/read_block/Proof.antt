@@ -25,7 +25,7 @@ returns c =
     let jk = c .before .before .before .before .before .before .jk in
     let place = c .before .before .before .before .before .before .before .place in
     let start = c .before .before .before .before .before .before .before .before .before .before in
-    block-read (start .args .b) _ _ _ _ _ _ (start .pre .1) _ (start .pre .0 .1)
+    block-read (start .args .b) _ _ _ _ _ _ (start .pre .1) _ (search needs) (start .pre .0 .1)
     (rw (place .ensures, jk .ensures, block .ensures) at (c .before .before .read .ensures))
 
 pub read-block-spec : {M : Type 1} → statement M

@@ -17,7 +17,7 @@ returns c =
     let a-k = c .before .before .before .before .before .a-k in
     let vl = c .before .before .before .before .before .before .vl in
     let start = c .before .before .before .before .before .before .before .before .before in
-    vector-stored _ _ _ _ _ _ (start .pre .1) (start .pre .0 .3) _ (start .pre .0 .1) (start .pre .0 .2)
+    vector-stored _ _ _ _ _ _ (start .pre .1) (start .pre .0 .3) _ (start .pre .0 .0) (start .pre .0 .1) (start .pre .0 .2)
     (rw (the-j .ensures, vl .ensures, a-k .ensures) at (c .before .before .store .ensures))
 
 pub store-v-spec : {M : Type 1} → statement M

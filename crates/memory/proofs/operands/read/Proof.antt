@@ -3,7 +3,7 @@ use mathlib.Core.Path.{_≡_, refl}
 use mathlib.Core.List.{List}
 use native.Mathlib.Omega.{arith}
 use lib.ListN.{length}
-use Rattle.machine.specs.Memory.{loadAt}
+use Rattle.access.specs.Window.{loadIn}
 use Rattle.access.specs.Executed.{cutTo, ringAt}
 use Rattle.access.proofs.Rings.{ring-turn}
 use Rattle.memory.specs.Moves.{rowIn, anyBeyond}
@@ -15,7 +15,7 @@ use Rattle.memory.proofs.operands.read.Tie as tie
 -- r₀ is the list as the loop finds it: where that is q with the first `whole` words of the row, r is q with the first e
 abbrev Inv-loop : tie.InvT-loop
 Inv-loop r₀ mem first words row narrow from whole outside₀ at₀ e₀ r outside at e =
-    let word : ℕ → ℕ = λ i. cutTo narrow (loadAt mem (rowIn first words from (row .by) i)) in
+    let word : ℕ → ℕ = λ i. cutTo narrow (loadIn mem (rowIn first words from (row .by) i)) in
     (e ≤ row .n) × (length r ≡ 672) × (at % 2 ^ 22 ≡ (from + e * row .by) % 2 ^ 22) × (outside ≡ anyBeyond (rowIn first words from (row .by)) e)
     × ((q : List ℕ) → r₀ ≡ ringAt (row .file) (row .reg) word whole q → r ≡ ringAt (row .file) (row .reg) word e q)
 
@@ -65,7 +65,7 @@ loop-again c =
       search needs,
       rw (c .wrapping-add-u642 .ensures) (next-address (l .at) (a-0 .result) (l .e) (a .row .by) (l .inv .2)),
       beyond-turn row (l .e) _ _ (l .inv .3) (rw (get .ensures .1, p)),
-      λ q h. ring-turn (a .row .file) (a .row .reg) (λ i. cutTo (a .narrow) (loadAt (a .mem .now) (row i))) (l .e) q (l .r) _ (cut .result) (l .inv .4 q h)
+      λ q h. ring-turn (a .row .file) (a .row .reg) (λ i. cutTo (a .narrow) (loadIn (a .mem .now) (row i))) (l .e) q (l .r) _ (cut .result) (l .inv .4 q h)
           (rw (c .before .before .place .ensures .0)) (rw (cut .ensures, get .ensures .0, p)),
     )
 
