@@ -1,11 +1,16 @@
--- A run as turns, and what a turn keeps. Assumes nothing.
+-- What steps keep; stretches, and turns and runs made of them. Assumes nothing.
 use Prim.Native.Nat.{ℕ, zero, suc, _+_, _-_, _*_, _^_, _<_, _≤_}
-use mathlib.Core.Path.{_≡_, refl, sym, _∙_, ap}
-use mathlib.Core.Bool.{Bool, true, false}
+use mathlib.Core.Path.{_≡_, refl, sym, _∙_, ap, subst}
+use mathlib.Core.Bool.{Bool, true, false, _&&_}
 use mathlib.Core.List.{List}
 use native.Mathlib.Omega.{arith}
 use lib.ListN.{length, getD}
+use lib.Dec.{eqb}
+use borrow.Author.Tests.{ne-eqb, eq-eqb}
 use Rattle.machine.specs.declared.ParcelAddr.{ParcelAddr}
+use Rattle.machine.specs.declared.Reach.{Reach}
+use Rattle.machine.specs.declared.Stray.{Stray}
+use Rattle.machine.specs.declared.Stray.the-variants.{Clean, First}
 use Rattle.machine.specs.declared.Work.{Work}
 use Rattle.machine.specs.declared.Work.the-variants as work
 use Rattle.machine.specs.declared.Answer.{Answer}
@@ -14,19 +19,29 @@ use Rattle.machine.specs.declared.Ending.the-variants as ending
 use Rattle.machine.specs.declared.Last.{Last}
 use Rattle.machine.specs.declared.Last.the-variants.{Nothing, Was, Refused}
 use Rattle.machine.specs.Word.{pick, bit}
-use Rattle.machine.specs.State.{Registers, Frame, State, Shared, sharing}
-use Rattle.machine.specs.Work.{workOf}
+use Rattle.machine.specs.Parcel.{onward}
+use Rattle.machine.specs.State.{Registers, Frame, State, Shared, sharing, addr, user}
+use Rattle.machine.specs.Memory.{orElse}
 use Rattle.machine.specs.Exchange.{loaded, save}
-use Rattle.machine.specs.Step.{Out, out, exchange, finish, finishOf, stepOf, stops, goesOn, counted}
+use Rattle.machine.specs.Step.{Out, out, exchange, ranged, finish, stepOf, stops, goesOn, counted}
 use Rattle.machine.specs.Run.{Turned, turned, turnOf, Ended, ended, endingOf, runOf}
 use Rattle.machine.specs.Layout.{registersOf, frameOf, stateOf}
-use Rattle.access.specs.Executed.{FrameOk, ControlOk}
+use Rattle.access.specs.Executed.{told, FrameOk, ControlOk}
 use Rattle.access.proofs.Places.{fill-length}
-use Rattle.laws.proofs.Laws.{Narrow, work-p, work-ok, work-length, loaded-ok}
-use Rattle.laws.proofs.Kept.{turn-keeps}
-use Rattle.turns.specs.Turn.{lastAfter, Fitting, isExchange, lastEnding}
+use Rattle.laws.proofs.Below.{picked}
+use Rattle.laws.proofs.Laws.{Narrow, loaded-ok}
+use Rattle.turns.specs.declared.Strays.the-variants as strays
+use Rattle.turns.specs.declared.Came.{Came}
+use Rattle.turns.specs.declared.Came.the-variants as came
+use Rattle.turns.specs.Turn.{stateAt, straysOf, goes, lastGoes, stepsOf, stepsAfter, lastFrom, lastAfter, endOf, Bursts, Fitting, Within, Sound, Comes}
+use Rattle.turns.specs.Turn.{Stands, Strayed, resumed, Part, lastEnding}
+use Rattle.turns.specs.Turn as turn
+use Rattle.turns.proofs.Steps.{fits, counted-small}
 
--- ---- every step leaves numbers that fit, and memory its length
+pub untold : false ≡ true → ⊥
+untold e = let z : _≡_ {A = ℕ} 0 1 = cc in omega arith
+
+-- ---- the end of every step leaves numbers that fit, and memory its length
 
 abbrev pub Fine : ℕ → State → Shared → Type 0
 Fine len st sh =
@@ -38,173 +53,382 @@ Fine len st sh =
       long : length (sh .mem) ≡ len;
     }
 
-module _ (len : ℕ) (st : State) (r : Registers) (sh : Shared) (f : FrameOk (st .frame)) (k : ControlOk r) (n : st .frame .processor < 2)
-    (l : length (sh .mem) ≡ len) where
-  exchange-fine : (p flags : ℕ) → Fine len (exchange (st .frame) r p flags sh .state) (exchange (st .frame) r p flags sh .shared)
+module _ (len : ℕ) (fr : Frame) (r : Registers) (sh : Shared) (f : FrameOk fr) (k : ControlOk r) (n : fr .processor < 2) (l : length (sh .mem) ≡ len) where
+  exchange-fine : (p flags : ℕ) (s : Stray) → Fine len (exchange fr r p flags s sh .state) (exchange fr r p flags s sh .shared)
   unfolding exchange save loaded
-  exchange-fine p flags =
-      let o = loaded-ok (sh .mem) (r .xa) r (st .frame) in
+  exchange-fine p flags s =
+      let o = loaded-ok (sh .mem) (r .xa) r fr in
       record { frame = o .1; control = o .0; processor = n; p = o .2; long = fill-length _ _ 16 (sh .mem) ∙ l }
 
-  finish-fine : (w : Work) → Narrow w → st .p .0 < 2 ^ 24 → ControlOk (st .registers) → Fine len (finish st w r sh .state) (finish st w r sh .shared)
+  stepped-fine : (p : ParcelAddr) → p .0 < 2 ^ 24 → Fine len (record { p = p; registers = r; frame = fr }) sh
+  stepped-fine p h = record { frame = f; control = k; processor = n; p = h; long = l }
+
+  pub ranged-fine : (p : ℕ) (s : Stray) → p < 2 ^ 24 → Fine len (ranged fr r p s sh .state) (ranged fr r p s sh .shared)
+  unfolding ranged
+  ranged-fine p s h =
+      picked (λ (o : Out). Fine len (o .state) (o .shared)) (user fr && eqb (r .ior) 1) (exchange-fine p _ s) (stepped-fine (addr p) h)
+
+  pub finish-fine : (p : ParcelAddr) (w : Work) (s : Stray) → Narrow w → p .0 < 2 ^ 24
+      → Fine len (finish (record { p = p; registers = r; frame = fr }) w s r sh .state) (finish (record { p = p; registers = r; frame = fr }) w s r sh .shared)
   unfolding finish
-  finish-fine work.PastOne h p c = record { frame = f; control = k; processor = n; p = omega arith; long = l }
-  finish-fine work.PastTwo h p c = record { frame = f; control = k; processor = n; p = omega arith; long = l }
-  finish-fine (work.To q) h p c = record { frame = f; control = k; processor = n; p = h; long = l }
-  finish-fine work.NormalExit h p c = exchange-fine _ _
-  finish-fine work.ErrorExit h p c = exchange-fine _ _
-  finish-fine (work.OperandRange m) h p c = exchange-fine _ _
-  finish-fine work.ProgramRange h p c = exchange-fine _ _
-  finish-fine work.NotHeld h p c = record { frame = f; control = c; processor = n; p = p; long = l }
-  finish-fine work.MonitorFetch h p c = record { frame = f; control = c; processor = n; p = p; long = l }
+  finish-fine p work.PastOne s h g = stepped-fine _ (omega arith)
+  finish-fine p work.PastTwo s h g = stepped-fine _ (omega arith)
+  finish-fine p (work.To q) s h g = stepped-fine q h
+  finish-fine p work.NormalExit s h g = exchange-fine _ _ s
+  finish-fine p work.ErrorExit s h g = exchange-fine _ _ s
+  finish-fine p work.StrayedOne s h g = ranged-fine _ s (omega arith)
+  finish-fine p work.StrayedTwo s h g = ranged-fine _ s (omega arith)
+  finish-fine p work.ProgramRange s h g = exchange-fine _ _ s
+  finish-fine p work.NotHeld s h g = stepped-fine p g
+  finish-fine p work.MonitorFetch s h g = stepped-fine p g
 
-pub step-fine : (len : ℕ) (st : State) (sh : Shared) → Fine len st sh → Fine len (stepOf st sh .state) (stepOf st sh .shared)
-unfolding stepOf finishOf
-step-fine len st sh h =
-    let d = workOf (st .frame) (st .registers) (st .p .0) sh in
-    finish-fine len st (d .registers) (d .shared) (h .frame) (work-ok (st .frame) (st .registers) (st .p .0) sh (h .control)) (h .processor)
-    (work-length (st .frame) (st .registers) (st .p .0) sh ∙ h .long) (d .work) (work-p (st .frame) (st .registers) (st .p .0) sh refl) (h .p) (h .control)
-
--- so does a turn
-pub turn-fitting : (r r′ mem mem′ : List ℕ) (budget : ℕ) (l : Last) (n : ℕ) → Fitting r (length mem) → getD r 0 0 < 2 ^ 24 → length r′ ≡ 672
-    → turned l n (stateOf r′) (sharing mem′) ≡ turnOf budget Nothing 0 (stateOf r) (sharing mem) → Fitting r′ (length mem′)
-    × (getD r′ 0 0 < 2 ^ 24) × (length mem′ ≡ length mem)
-turn-fitting r r′ mem mem′ budget l n f p long e =
-    let start : Fine (length mem) (stateOf r) (sharing mem)
-    = record { frame = f .frame; control = f .control; processor = f .processor; p = p; long = refl } in
-    let end : Fine (length mem) (stateOf r′) (sharing mem′)
-    = rw (← e) at (turn-keeps (Fine (length mem)) (step-fine (length mem)) budget Nothing 0 (stateOf r) (sharing mem) start) in (
-      record {
+-- so words that fitted fit after it
+pub stands : (r r′ mem mem′ : List ℕ) → Fitting r (length mem) → length r′ ≡ 672 → Fine (length mem) (stateOf r′) (sharing mem′) → Stands r′ mem mem′
+stands r r′ mem mem′ f long h =
+    record {
+      fitting = record {
         long = long;
-        frame = end .frame;
-        control = end .control;
-        processor = end .processor;
-        least = omega
-            (arith, end .long, f .least);
-        most = omega (arith, end .long, f .most);
-      },
-      end .p,
-      end .long,
-    )
+        frame = h .frame;
+        control = h .control;
+        processor = h .processor;
+        least = omega (arith, h .long, f .least);
+        most = omega (arith, h .long, f .most);
+      };
+      narrow = h .p;
+      long = h .long;
+    }
 
--- ---- a run is a turn, and after an exchange a run with what is left of the budget
+-- where the end of a step is o, whose state and memory are these
+pub fine-at : (len : ℕ) (o : Answer) (s : Stray) (st : State) (sh : Shared) (e : Out) → out o s st sh ≡ e → Fine len (e .state) (e .shared) → Fine len st sh
+fine-at len o s st sh e q h = rw (← q) at h
 
--- what is left of a run of `budget` steps after k of them, the last answer being l
-abbrev pub resumed : ℕ → ℕ → ℕ → Last → State → Shared → Ended
-resumed budget n k l st sh = pick (isExchange l) (runOf (budget - k) (n + k) st sh) (ended (lastEnding l) (n + k) st sh)
+-- P in its place
+pub set-fine : (r r′ mem : List ℕ) (p : ParcelAddr) → Fitting r (length mem) → p .0 < 2 ^ 24 → stateOf r′ ≡ stateAt p r → Fine (length mem) (stateOf r′) (sharing mem)
+set-fine r r′ mem p f l e =
+    subst (λ (x : State). Fine (length mem) x (sharing mem)) (sym e)
+    (record { frame = f .frame; control = f .control; processor = f .processor; p = l; long = refl })
 
--- the turn took k steps
-pub record Resumes (budget n m : ℕ) (t : Turned) (whole : Ended) : Type 0 where
-  pub k : ℕ
-  pub count : t .steps ≡ m + k
-  pub within : k ≤ budget
-  pub some : isExchange (t .last) ≡ true → 1 ≤ k
-  pub run : whole ≡ resumed budget n k (t .last) (t .state) (t .shared)
+-- ---- what a burst comes to
 
-pub untold : false ≡ true → ⊥
-untold e = let z : _≡_ {A = ℕ} 0 1 = cc in omega arith
+-- the work that strayed, and work that did not
+strays-one : (w : Work) → straysOf w ≡ strays.One → w ≡ work.StrayedOne
+strays-one work.PastOne e = absurd (let z : _≡_ {A = ℕ} 0 1 = cc in omega arith)
+strays-one work.PastTwo e = absurd (let z : _≡_ {A = ℕ} 0 1 = cc in omega arith)
+strays-one (work.To q) e = absurd (let z : _≡_ {A = ℕ} 0 1 = cc in omega arith)
+strays-one work.NormalExit e = absurd (let z : _≡_ {A = ℕ} 0 1 = cc in omega arith)
+strays-one work.ErrorExit e = absurd (let z : _≡_ {A = ℕ} 0 1 = cc in omega arith)
+strays-one work.StrayedOne e = refl
+strays-one work.StrayedTwo e = absurd (let z : _≡_ {A = ℕ} 0 1 = cc in omega arith)
+strays-one work.ProgramRange e = absurd (let z : _≡_ {A = ℕ} 0 1 = cc in omega arith)
+strays-one work.NotHeld e = absurd (let z : _≡_ {A = ℕ} 0 1 = cc in omega arith)
+strays-one work.MonitorFetch e = absurd (let z : _≡_ {A = ℕ} 0 1 = cc in omega arith)
 
-resumes : (budget j m n : ℕ) (st : State) (sh : Shared) → Resumes budget n m (turnOf budget (lastAfter j) m st sh) (runOf budget n st sh)
-unfolding turnOf runOf
-resumes zero j m n st sh = go j
-  where
-    e : n + 0 ≡ n
-    e = omega arith
+strays-two : (w : Work) → straysOf w ≡ strays.Two → w ≡ work.StrayedTwo
+strays-two work.PastOne e = absurd (let z : _≡_ {A = ℕ} 0 1 = cc in omega arith)
+strays-two work.PastTwo e = absurd (let z : _≡_ {A = ℕ} 0 1 = cc in omega arith)
+strays-two (work.To q) e = absurd (let z : _≡_ {A = ℕ} 0 1 = cc in omega arith)
+strays-two work.NormalExit e = absurd (let z : _≡_ {A = ℕ} 0 1 = cc in omega arith)
+strays-two work.ErrorExit e = absurd (let z : _≡_ {A = ℕ} 0 1 = cc in omega arith)
+strays-two work.StrayedOne e = absurd (let z : _≡_ {A = ℕ} 0 1 = cc in omega arith)
+strays-two work.StrayedTwo e = refl
+strays-two work.ProgramRange e = absurd (let z : _≡_ {A = ℕ} 0 1 = cc in omega arith)
+strays-two work.NotHeld e = absurd (let z : _≡_ {A = ℕ} 0 1 = cc in omega arith)
+strays-two work.MonitorFetch e = absurd (let z : _≡_ {A = ℕ} 0 1 = cc in omega arith)
 
-    go : (j : ℕ) → Resumes zero n m (turned (lastAfter j) m st sh) (ended ending.Budget n st sh)
-    go zero = record { k = 0; count = omega arith; within = omega arith; some = λ z. absurd (untold z); run = rw e }
-    go (suc j) = record { k = 0; count = omega arith; within = omega arith; some = λ z. absurd (untold z); run = rw e }
-resumes (suc budget) j m n st sh =
-    go (stepOf st sh .answer) (resumes budget 1 (m + 1) (n + 1) (stepOf st sh .state) (stepOf st sh .shared))
-  where
-    st′ : State
-    st′ = stepOf st sh .state
+told-none : (w : Work) (r : List ℕ) (len : ℕ) → straysOf w ≡ strays.None → told w r len ≡ Clean
+told-none work.PastOne r len e = refl
+told-none work.PastTwo r len e = refl
+told-none (work.To q) r len e = refl
+told-none work.NormalExit r len e = refl
+told-none work.ErrorExit r len e = refl
+told-none work.StrayedOne r len e = absurd (let z : _≡_ {A = ℕ} 0 1 = cc in omega arith)
+told-none work.StrayedTwo r len e = absurd (let z : _≡_ {A = ℕ} 0 1 = cc in omega arith)
+told-none work.ProgramRange r len e = refl
+told-none work.NotHeld r len e = refl
+told-none work.MonitorFetch r len e = refl
 
-    sh′ : Shared
-    sh′ = stepOf st sh .shared
+module _ (p : ParcelAddr) (n : ℕ) (w : Work) (r r′ mem mem′ : List ℕ) (f : Reach) (budget : ℕ)
+    (b : Bursts p n w r r′ mem mem′ f (addr (getD r 0 0)) budget) (most : budget ≤ 1000000) (fit : Fitting r (length mem)) (long : length mem′ ≡ length mem) where
+  pub still-fitting : Fitting r′ (length mem′)
+  still-fitting = fits r′ f (length mem′) (b .ready) (omega (arith, long, fit .least))
 
-    more : (t : Turned) (e : Ended) → Resumes budget (n + 1) (m + 1) t e → Resumes (suc budget) n m t e
-    more t e h =
-        let b : suc budget - suc (h .k) ≡ budget - h .k = omega arith in
-        let c : n + suc (h .k) ≡ n + 1 + h .k = omega arith in
+  pub came-spent : (r″ : List ℕ) → length r″ ≡ 672 → n ≡ budget → stateOf r″ ≡ stateAt p r′ → Comes (came.Spent n) budget r r″ mem mem′
+  came-spent r″ l e stored =
+      let k = stands r′ r″ mem′ mem′ still-fitting l (set-fine r′ r″ mem′ p still-fitting (b .narrow) stored) in
+      record {
+        fitting = k .fitting;
+        long = long;
+        within = e;
+        sound = (omega (arith, e, most), k .narrow);
+        rest = λ through l s m. rw stored (rw (eq-eqb n budget e) at (b .rest through l s m));
+      }
+
+  module _ (some : n ≡ budget → ⊥) where
+    less : n < budget
+    less = omega (arith, b .steps, some)
+
+    pub came-one : straysOf w ≡ strays.One → Comes (came.StrayedOne n p) budget r r′ mem mem′
+    came-one e =
         record {
-          k = suc (h .k);
-          count = omega (arith, h .count);
-          within = omega (arith, h .within);
-          some = λ z. omega arith;
-          run = h .run ∙ rw (b, c);
+          fitting = still-fitting;
+          long = long;
+          within = less;
+          sound = (omega (arith, less, most), b .narrow);
+          rest = λ through l s m. rw (strays-one w e, ne-eqb n budget some) at (b .rest through l s m);
         }
 
-    go : (o : Answer) → Resumes budget (n + 1) (m + 1) (turnOf budget (Was Stepped) (m + 1) st′ sh′) (runOf budget (n + 1) st′ sh′)
-        → Resumes (suc budget) n m
-        (pick (goesOn o) (turnOf budget (Was o) (m + counted o) st′ sh′) (turned (Was o) (m + counted o) st′ sh′))
-        (pick (stops o) (ended (endingOf o) (n + counted o) st′ sh′) (runOf budget (n + counted o) st′ sh′))
-    go Stepped h = more _ _ h
-    go (Exchanged flags) h =
-        let b : suc budget - 1 ≡ budget = omega arith in
-        record { k = 1; count = refl; within = omega arith; some = λ z. omega arith; run = rw b }
-    go (NotHeld p) h = record { k = 0; count = refl; within = omega arith; some = λ z. absurd (untold z); run = refl }
-    go (MonitorFetch p) h = record { k = 0; count = refl; within = omega arith; some = λ z. absurd (untold z); run = refl }
+    pub came-two : straysOf w ≡ strays.Two → Comes (came.StrayedTwo n p) budget r r′ mem mem′
+    came-two e =
+        record {
+          fitting = still-fitting;
+          long = long;
+          within = less;
+          sound = (omega (arith, less, most), b .narrow);
+          rest = λ through l s m. rw (strays-two w e, ne-eqb n budget some) at (b .rest through l s m);
+        }
 
--- what is left of a run after `steps` of its steps
-abbrev pub later : ℕ → ℕ → Last → List ℕ → List ℕ → Ended
-later budget steps l r mem =
-    pick (isExchange l) (runOf (budget - steps) steps (stateOf r) (sharing mem)) (ended (lastEnding l) steps (stateOf r) (sharing mem))
+    pub came-ended : (o : Answer) (r″ mem″ : List ℕ) → length r″ ≡ 672 → straysOf w ≡ strays.None
+        → ((s : Stray) → out o s (stateOf r″) (sharing mem″) ≡ finish (stateAt p r′) w s (registersOf r′) (sharing mem′))
+        → Comes (came.Ended n o) budget r r″ mem mem″
+    came-ended o r″ mem″ l e h =
+        let g = still-fitting in
+        let k = stands r′ r″ mem′ mem″ g l (fine-at (length mem′) o Clean (stateOf r″) (sharing mem″) _ (h Clean)
+        (finish-fine (length mem′) (frameOf r′) (registersOf r′) (sharing mem′) (g .frame) (g .control) (g .processor) refl p w Clean (b .work) (b .narrow))) in
+        record {
+          fitting = k .fitting;
+          long = k .long ∙ long;
+          within = less;
+          sound = (omega (arith, less, most), k .narrow);
+          rest = λ through l s m.
+              ap (λ (x : Out). stepsAfter through (budget - n - 1) s (m + n) x) (h Clean)
+              ∙ (rw (told-none w r′ (length mem′) e, ne-eqb n budget some) at (b .rest through l s m));
+        }
 
--- how the loop over turns stands: what is left from here is the whole
-pub record Running (whole : Ended) (len : ℕ) (r mem : List ℕ) (budget steps : ℕ) (l : Last) : Type 0 where
+-- ---- a stretch is the first part of the steps
+
+-- a last answer that goes on was counted
+module _ (through : Bool) where
+  goes-counted : (o : Answer) → goes through o ≡ true → counted o ≡ 1
+  goes-counted Stepped e = refl
+  goes-counted (Exchanged flags) e = refl
+  goes-counted (NotHeld p) e = absurd (untold e)
+  goes-counted (MonitorFetch p) e = absurd (untold e)
+
+-- all the budget is spent
+pub part-spent : (n budget : ℕ) (st : State) (sh : Shared) → n ≡ budget
+    → Part (lastAfter n) Clean n budget st sh (λ through l s m. turned (lastFrom l n) s (m + n) st sh)
+unfolding stepsOf
+part-spent zero budget st sh e =
+    record {
+      within = omega arith;
+      some = λ through z. absurd (untold z);
+      was = λ ne. absurd (ne (sym e));
+      rest = λ through l s m. refl;
+    }
+part-spent (suc n) budget st sh e =
+    let z : budget - suc n ≡ 0 = omega arith in
+    record {
+      within = omega arith;
+      some = λ through z. omega arith;
+      was = λ ne. (Stepped, refl);
+      rest = λ through l s m. rw z;
+    }
+
+-- or one more step ended
+pub part-after : (o : Answer) (s : Stray) (n k budget : ℕ) (st : State) (sh : Shared) (e : Out) → out o s st sh ≡ e → n < budget → k ≡ n + counted o
+    → Part (Was o) s k budget st sh (λ through l₀ s₀ m. stepsAfter through (budget - n - 1) s₀ (m + n) e)
+part-after o s n k budget st sh e q l c =
+    rw (← q, c)
+    (record {
+      within = omega (arith, counted-small o);
+      some = λ through g. omega (arith, goes-counted through o g);
+      was = λ ne. (o, refl);
+      rest = λ through l₀ s₀ m. go through s₀ m o;
+    })
+  where
+    go : (through : Bool) (s₀ : Stray) (m : ℕ) (o : Answer)
+        → pick (goes through o) (stepsOf through (budget - (n + counted o)) (Was o) (orElse s s₀) (m + (n + counted o)) st sh)
+        (turned (Was o) (orElse s s₀) (m + (n + counted o)) st sh)
+        ≡ stepsAfter through (budget - n - 1) s₀ (m + n) (out o s st sh)
+    go through s₀ m Stepped =
+        let a : budget - (n + 1) ≡ budget - n - 1 = omega arith in
+        let b : m + (n + 1) ≡ m + n + 1 = omega arith in
+        rw (a, b)
+    go through s₀ m (Exchanged flags) =
+        let a : budget - (n + 1) ≡ budget - n - 1 = omega arith in
+        let b : m + (n + 1) ≡ m + n + 1 = omega arith in
+        rw (a, b)
+    go through s₀ m (NotHeld p) = let b : m + (n + 0) ≡ m + n + 0 = omega arith in rw b
+    go through s₀ m (MonitorFetch p) = let b : m + (n + 0) ≡ m + n + 0 = omega arith in rw b
+
+-- a step whose work strayed ended
+pub strayed-ends : (o : Answer) (s : Stray) (n steps p : ℕ) (w : Work) (r r′ mem mem′ : List ℕ) → Fitting r (length mem) → p < 2 ^ 24 → length r′ ≡ 672
+    → s ≡ told w r (length mem) → ((s : Stray) → out o s (stateOf r′) (sharing mem′) ≡ ranged (frameOf r) (registersOf r) p s (sharing mem))
+    → n ≡ steps + counted o → Strayed (Was o) s n steps p w r r′ mem mem′
+strayed-ends o s n steps p w r r′ mem mem′ f l long t h c =
+    let e : out o s (stateOf r′) (sharing mem′) ≡ ranged (frameOf r) (registersOf r) p (told w r (length mem)) (sharing mem) = rw t (h (told w r (length mem))) in
+    record {
+      answer = o;
+      last = refl;
+      count = c;
+      ended = e;
+      stands = stands r r′ mem mem′ f long (fine-at (length mem) o s (stateOf r′) (sharing mem′) _ e
+          (ranged-fine (length mem) (frameOf r) (registersOf r) (sharing mem) (f .frame) (f .control) (f .processor) refl p _ l));
+    }
+
+-- what a burst came to, its last step ended
+stayed : (r mem : List ℕ) → Fitting r (length mem) → getD r 0 0 < 2 ^ 24 → Stands r mem mem
+stayed r mem f l = record { fitting = f; narrow = l; long = refl }
+
+pub end-spent : (l : Last) (n : ℕ) (c : Came) (r mem : List ℕ) → c ≡ came.Spent n → l ≡ lastAfter n → Fitting r (length mem) → Sound c r
+    → turn.Ended l Clean n c r r mem mem
+end-spent l n c r mem e q f k =
+    rw (e, q) (record { stands = stayed r mem f ((rw e at k) .1); part = λ budget w. part-spent n budget (stateOf r) (sharing mem) w })
+
+pub end-ended : (o : Answer) (n k : ℕ) (c : Came) (r mem : List ℕ) → c ≡ came.Ended n o → k ≡ n + counted o → Fitting r (length mem) → Sound c r
+    → turn.Ended (Was o) Clean k c r r mem mem
+end-ended o n k c r mem e q f h =
+    rw e
+    (record { stands = stayed r mem f ((rw e at h) .1); part = λ budget w. part-after o Clean n k budget (stateOf r) (sharing mem) _ refl w q })
+
+module _ (l : Last) (s : Stray) (k n : ℕ) (p : ParcelAddr) (c : Came) (r r′ mem mem′ : List ℕ) where
+  pub end-one : c ≡ came.StrayedOne n p → Strayed l s k n (onward (p .0) 1) work.StrayedOne r r′ mem mem′ → turn.Ended l s k c r r′ mem mem′
+  unfolding finish
+  end-one e h =
+      rw (e, h .last)
+      (record { stands = h .stands; part = λ budget w. part-after (h .answer) s n k budget (stateOf r′) (sharing mem′) _ (h .ended) w (h .count) })
+
+  pub end-two : c ≡ came.StrayedTwo n p → Strayed l s k n (onward (p .0) 2) work.StrayedTwo r r′ mem mem′ → turn.Ended l s k c r r′ mem mem′
+  unfolding finish
+  end-two e h =
+      rw (e, h .last)
+      (record { stands = h .stands; part = λ budget w. part-after (h .answer) s n k budget (stateOf r′) (sharing mem′) _ (h .ended) w (h .count) })
+
+-- ---- the loop over stretches
+
+-- how it stands: what is left from here is the whole
+pub record Running (whole : Turned) (len : ℕ) (r mem : List ℕ) (through : Bool) (budget : ℕ) (l : Last) (s : Stray) (steps : ℕ) : Type 0 where
   pub fitting : Fitting r (length mem)
   pub p : getD r 0 0 < 2 ^ 24
   pub long : length mem ≡ len
   pub within : steps ≤ budget
-  pub rest : whole ≡ later budget steps l r mem
+  pub rest : resumed through budget Nothing Clean 0 l s steps (stateOf r) (sharing mem) ≡ whole
 
--- twice the steps left, and one more while the last answer is an exchange
-abbrev pub togo : ℕ → ℕ → Last → ℕ
-togo budget steps l = (budget - steps) * 2 + bit (isExchange l)
+-- the first stretch
+pub running : (c : Came) (r r′ r″ mem mem′ mem″ : List ℕ) (budget : ℕ) (l : Last) (s : Stray) (n : ℕ) (through : Bool)
+    → Comes c budget r r′ mem mem′ → turn.Ended l s n c r′ r″ mem′ mem″
+    → Running (stepsOf through budget Nothing Clean 0 (stateOf r) (sharing mem)) (length mem) r″ mem″ through budget l s n
+running c r r′ r″ mem mem′ mem″ budget l s n through h e =
+    let k = e .part budget (h .within) in
+    record {
+      fitting = e .stands .fitting;
+      p = e .stands .narrow;
+      long = e .stands .long ∙ h .long;
+      within = k .within;
+      rest = k .rest through Nothing Clean 0 ∙ h .rest through Nothing Clean 0;
+    }
 
--- a turn of what is left
-module _ (r r′ mem mem′ : List ℕ) (budget left steps n : ℕ) (l : Last) (f : Fitting r (length mem)) (p : getD r 0 0 < 2 ^ 24) (long : length r′ ≡ 672)
-    (t : turned l n (stateOf r′) (sharing mem′) ≡ turnOf left Nothing 0 (stateOf r) (sharing mem)) (e : left ≡ budget - steps) (h : steps ≤ budget) where
-  pub runs-on : Running (runOf left steps (stateOf r) (sharing mem)) (length mem) r′ mem′ budget (steps + n) l × (isExchange l ≡ true → 1 ≤ n)
+-- twice the steps left, and one more while the last answer goes on
+abbrev pub togo : Bool → ℕ → ℕ → Last → ℕ
+togo through budget steps l = (budget - steps) * 2 + bit (lastGoes through l)
+
+-- which stray counts
+or-clean : (s : Stray) → orElse s Clean ≡ s
+or-clean Clean = refl
+or-clean (First cause e) = refl
+
+or-or : (s t u : Stray) → orElse (orElse s t) u ≡ orElse s (orElse t u)
+or-or Clean t u = refl
+or-or (First cause e) t u = refl
+
+-- one stretch more, of what is left
+module _ (whole : Turned) (len : ℕ) (c : Came) (r r′ r″ mem mem′ mem″ : List ℕ) (through : Bool) (budget : ℕ) (l l′ : Last) (s s′ : Stray) (n n′ : ℕ)
+    (g : Running whole len r mem through budget l s n) (some : n < budget) (on : lastGoes through l ≡ true)
+    (h : Comes c (budget - n) r r′ mem mem′) (e : turn.Ended l′ s′ n′ c r′ r″ mem′ mem″) where
+  k : Part l′ s′ n′ (budget - n) (stateOf r″) (sharing mem″) (λ through l₀ s₀ m. turn.cameEnd through (budget - n) l₀ s₀ m c r′ mem′)
+  k = e .part (budget - n) (h .within)
+
+  -- the last answer before went on
+  went : (l : Last) → lastGoes through l ≡ true
+      → resumed through budget Nothing Clean 0 l s n (stateOf r) (sharing mem)
+      ≡ stepsOf through (budget - n) l (orElse s Clean) n (stateOf r) (sharing mem)
+  went Nothing z = absurd (untold z)
+  went (Was o) z = let a : 0 + n ≡ n = omega arith in rw (z, a)
+  went (Refused j) z = absurd (untold z)
+
+  joined : (o : Answer) → l′ ≡ Was o
+      → resumed through budget Nothing Clean 0 l′ (orElse s′ s) (n + n′) (stateOf r″) (sharing mem″)
+      ≡ resumed through (budget - n) l (orElse s Clean) n l′ s′ n′ (stateOf r″) (sharing mem″)
+  joined o q =
+      let a : budget - (n + n′) ≡ budget - n - n′ = omega arith in
+      let b : 0 + (n + n′) ≡ n + n′ = omega arith in
+      rw (q, a, b, or-or s′ s Clean)
+
+  pub runs-on : Running whole len r″ mem″ through budget l′ (orElse s′ s) (n + n′) × (togo through budget (n + n′) l′ < togo through budget n l)
   runs-on =
-      let k = turn-fitting r r′ mem mem′ left l n f p long t in
-      let u : Resumes left steps 0 (turned l n (stateOf r′) (sharing mem′)) (runOf left steps (stateOf r) (sharing mem)) = rw t
-      (resumes left 0 0 steps (stateOf r) (sharing mem)) in
-      let c : n ≡ u .k = u .count ∙ omega arith in
-      let a : left - u .k ≡ budget - (steps + n) = omega (arith, c, e) in
-      let b : steps + u .k ≡ steps + n = omega (arith, c) in (
+      let w = k .was (λ z. omega (arith, some, z)) in
+      let same = joined (w .0) (w .1) ∙ k .rest through l (orElse s Clean) n ∙ h .rest through l (orElse s Clean) n ∙ sym (went l on) ∙ g .rest in (
         record {
-          fitting = k .0;
-          p = k .1;
-          long = k .2;
-          within = omega (arith, u .within, c, e, h);
-          rest = u .run ∙ rw (a, b);
+          fitting = e .stands .fitting;
+          p = e .stands .narrow;
+          long = e .stands .long ∙ h .long ∙ g .long;
+          within = omega (arith, k .within, some);
+          rest = same;
         },
-        λ z. omega (arith, u .some z, c),
-      )
-
-  -- the loop goes on: fewer steps are left, or none are to be taken
-  pub again : (whole : Ended) (len : ℕ) (l₀ : Last) → isExchange l₀ ≡ true → whole ≡ later budget steps l₀ r mem → length mem ≡ len
-      → Running whole len r′ mem′ budget (steps + n) l × (togo budget (steps + n) l < togo budget steps l₀)
-  again whole len l₀ x w m =
-      let u = runs-on in
-      let g : whole ≡ runOf left steps (stateOf r) (sharing mem) = w ∙ rw (x, e) in (
-        record { fitting = u .0 .fitting; p = u .0 .p; long = u .0 .long ∙ m; within = u .0 .within; rest = g ∙ u .0 .rest },
-        rw x (less (isExchange l) refl),
+        rw on (fewer (lastGoes through l′) refl),
       )
     where
-      less : (b : Bool) → isExchange l ≡ b → (budget - (steps + n)) * 2 + bit b < (budget - steps) * 2 + 1
-      less true z = omega (arith, runs-on .1 z, runs-on .0 .within)
-      less false z = omega (arith, runs-on .0 .within)
+      fewer : (b : Bool) → lastGoes through l′ ≡ b → (budget - (n + n′)) * 2 + bit b < (budget - n) * 2 + 1
+      fewer true z = omega (arith, k .some through z, k .within, some)
+      fewer false z = omega (arith, k .within, some)
 
--- the loop is left: the budget is spent, or the last answer is no exchange
-pub over : (budget steps : ℕ) (l : Last) (r mem : List ℕ) → (isExchange l ≡ true → budget - steps ≡ 0)
-    → later budget steps l r mem ≡ ended (lastEnding l) steps (stateOf r) (sharing mem)
-unfolding runOf
-over budget steps Nothing r mem h = refl
-over budget steps (Was Stepped) r mem h = refl
-over budget steps (Was (Exchanged flags)) r mem h = rw (h refl)
-over budget steps (Was (NotHeld p)) r mem h = refl
-over budget steps (Was (MonitorFetch p)) r mem h = refl
-over budget steps (Refused n) r mem h = refl
+-- the loop is left: the budget is spent, or the last answer ends it
+pub over : (r mem : List ℕ) (through : Bool) (budget : ℕ) (l : Last) (s : Stray) (n : ℕ) → (lastGoes through l ≡ true → budget - n ≡ 0)
+    → resumed through budget Nothing Clean 0 l s n (stateOf r) (sharing mem) ≡ turned l s n (stateOf r) (sharing mem)
+unfolding stepsOf
+over r mem through budget Nothing s n h = rw (or-clean s) (let a : 0 + n ≡ n = omega arith in rw a)
+over r mem through budget (Was o) s n h = rw (or-clean s) (let a : 0 + n ≡ n = omega arith in rw a (go (goes through o) refl))
+  where
+    go : (b : Bool) → goes through o ≡ b
+        → pick b (stepsOf through (budget - n) (Was o) s n (stateOf r) (sharing mem)) (turned (Was o) s n (stateOf r) (sharing mem))
+        ≡ turned (Was o) s n (stateOf r) (sharing mem)
+    go true z = rw (h z)
+    go false z = refl
+over r mem through budget (Refused j) s n h = rw (or-clean s) (let a : 0 + n ≡ n = omega arith in rw a)
+
+-- ---- turns and runs
+
+pub turn-is : (budget : ℕ) (l : Last) (s : Stray) (n : ℕ) (st : State) (sh : Shared) → stepsOf false budget l s n st sh ≡ turnOf budget l s n st sh
+unfolding stepsOf turnOf
+turn-is zero l s n st sh = refl
+turn-is (suc budget) l s n st sh =
+    let o = stepOf st sh in
+    go (o .answer) _ _ _ (turn-is budget (Was (o .answer)) (orElse (o .stray) s) (n + counted (o .answer)) (o .state) (o .shared))
+  where
+    go : (a : Answer) (x x′ y : Turned) → x ≡ x′ → pick (goes false a) x y ≡ pick (goesOn a) x′ y
+    go Stepped x x′ y e = e
+    go (Exchanged flags) x x′ y e = refl
+    go (NotHeld p) x x′ y e = refl
+    go (MonitorFetch p) x x′ y e = refl
+
+-- a run ends as its last answer says
+abbrev pub endedAs : Turned → Ended
+endedAs t = ended (lastEnding (t .last)) (t .stray) (t .steps) (t .state) (t .shared)
+
+pub run-is : (budget : ℕ) (l : Last) (s : Stray) (n : ℕ) (st : State) (sh : Shared) → lastEnding l ≡ ending.Budget
+    → endedAs (stepsOf true budget l s n st sh) ≡ runOf budget s n st sh
+unfolding stepsOf runOf
+run-is zero l s n st sh e = rw e
+run-is (suc budget) l s n st sh e =
+    let o = stepOf st sh in
+    go (o .answer) _ _ (run-is budget (Was (o .answer)) (orElse (o .stray) s) (n + counted (o .answer)) (o .state) (o .shared))
+  where
+    t : Answer → Turned
+    t a = let o = stepOf st sh in turned (Was a) (orElse (o .stray) s) (n + counted a) (o .state) (o .shared)
+
+    go : (a : Answer) (x : Turned) (y : Ended) → (endingOf a ≡ ending.Budget → endedAs x ≡ y)
+        → endedAs (pick (goes true a) x (t a)) ≡ pick (stops a) (endedAs (t a)) y
+    go Stepped x y h = h refl
+    go (Exchanged flags) x y h = h refl
+    go (NotHeld p) x y h = refl
+    go (MonitorFetch p) x y h = refl

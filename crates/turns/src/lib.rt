@@ -10,12 +10,13 @@ ghost use Rattle.machine.specs.declared.Stray.{Stray};
 ghost use Rattle.machine.specs.declared.Stray.the-variants.{Clean};
 ghost use Rattle.machine.specs.declared.Last.the-variants.{Nothing};
 ghost use Rattle.machine.specs.State.{sharing};
-ghost use Rattle.machine.specs.Step.{out, inUserMode, exchange, finish, counted};
+ghost use Rattle.machine.specs.Memory.{orElse};
+ghost use Rattle.machine.specs.Step.{out, inUserMode, exchange, ranged, finish, counted};
 ghost use Rattle.machine.specs.Run.{turned, turnOf};
 ghost use Rattle.machine.specs.Layout.{registersOf, frameOf, stateOf};
 ghost use Rattle.dispatch.specs.Table.{Ready};
 ghost use Rattle.laws.proofs.Laws.{Narrow};
-ghost use Rattle.turns.specs.Turn.{stateAt, movedTo, lastAfter, Bursts, Fitting};
+ghost use Rattle.turns.specs.Turn.{stateAt, movedTo, straysOf, goes, lastGoes, stepsOf, lastAfter, Bursts, Fitting, Comes, Sound, Strayed, Ended};
 use machine::Answer;
 use machine::Last;
 use machine::ParcelAddr;
@@ -45,11 +46,11 @@ fn move_p(p: ParcelAddr, w: Work) -> Moved
     match w {
         Work::PastOne => Moved::At(access::on(p, 1)),
         Work::PastTwo => Moved::At(access::on(p, 2)),
-        Work::StrayedOne => Moved::Ends,
-        Work::StrayedTwo => Moved::Ends,
         Work::To(target) => Moved::At(target),
         Work::NormalExit => Moved::Ends,
         Work::ErrorExit => Moved::Ends,
+        Work::StrayedOne => Moved::Ends,
+        Work::StrayedTwo => Moved::Ends,
         Work::ProgramRange => Moved::Ends,
         Work::NotHeld => Moved::Ends,
         Work::MonitorFetch => Moved::Ends,
@@ -102,8 +103,8 @@ fn in_user_mode(r: &[u64], flag: u64) -> u64
 fn leave(r: &mut [u64], mem: &mut [u64], p: ParcelAddr, flags: u64) -> Answer
     requires { ⌜ Fitting (now r) (length (now mem)) ⌝ }
     requires { ⌜ (p .0 < 2 ^ 24) × (flags < 512) ⌝ }
-    ensures { λ o. ⌜ out o (stateOf (now (r .exit))) (sharing (now (mem .exit)))
-        ≡ exchange (frameOf (now (r .entry))) (registersOf (now (r .entry))) (p .0) flags (sharing (now (mem .entry))) ⌝ }
+    ensures { λ o. ⌜ ((s : Stray) → out o s (stateOf (now (r .exit))) (sharing (now (mem .exit)))
+        ≡ exchange (frameOf (now (r .entry))) (registersOf (now (r .entry))) (p .0) flags s (sharing (now (mem .entry)))) ⌝ }
 {
     exchange::swap(r, mem, p, flags);
     Answer::Exchanged(flags)
@@ -135,8 +136,8 @@ fn ranged(r: &mut [u64], mem: &mut [u64], p: ParcelAddr) -> Answer
 fn finish(r: &mut [u64], mem: &mut [u64], p: ParcelAddr, w: Work) -> Answer
     requires { ⌜ Fitting (now r) (length (now mem)) ⌝ }
     requires { ⌜ (p .0 < 2 ^ 24) × Narrow w ⌝ }
-    ensures { λ o. ⌜ out o (stateOf (now (r .exit))) (sharing (now (mem .exit)))
-        ≡ finish (stateAt p (now (r .entry))) w (registersOf (now (r .entry))) (sharing (now (mem .entry))) ⌝ }
+    ensures { λ o. ⌜ ((s : Stray) → out o s (stateOf (now (r .exit))) (sharing (now (mem .exit)))
+        ≡ finish (stateAt p (now (r .entry))) w s (registersOf (now (r .entry))) (sharing (now (mem .entry)))) ⌝ }
 {
     match w {
         Work::PastOne => {
@@ -147,14 +148,14 @@ fn finish(r: &mut [u64], mem: &mut [u64], p: ParcelAddr, w: Work) -> Answer
             set_p(r, access::on(p, 2));
             Answer::Stepped
         }
-        Work::StrayedOne => ranged(r, mem, access::on(p, 1)),
-        Work::StrayedTwo => ranged(r, mem, access::on(p, 2)),
         Work::To(q) => {
             set_p(r, q);
             Answer::Stepped
         }
         Work::NormalExit => leave(r, mem, access::on(p, 1), in_user_mode(r, NORMAL_EXIT)),
         Work::ErrorExit => leave(r, mem, access::on(p, 1), in_user_mode(r, ERROR_EXIT)),
+        Work::StrayedOne => ranged(r, mem, access::on(p, 1)),
+        Work::StrayedTwo => ranged(r, mem, access::on(p, 2)),
         Work::ProgramRange => leave(r, mem, p, PROGRAM_RANGE),
         Work::NotHeld => {
             set_p(r, p);
@@ -169,7 +170,7 @@ fn finish(r: &mut [u64], mem: &mut [u64], p: ParcelAddr, w: Work) -> Answer
 
 // What an answer adds to the count of steps.
 fn count_of(answer: Answer) -> u64
-    ensures { λ n. ⌜ n ≡ counted answer ⌝ }
+    ensures { λ n. ⌜ (n ≡ counted answer) × (n ≤ 1) ⌝ }
 {
     match answer {
         Answer::Stepped => 1,
@@ -197,7 +198,7 @@ pub enum Strays {
     Two,
 }
 
-fn strays(w: Work) -> Strays
+fn strays_of(w: Work) -> Strays
     ensures { λ o. ⌜ o ≡ straysOf w ⌝ }
 {
     match w {
@@ -223,23 +224,23 @@ pub enum Came {
     Ended { steps: u64, answer: Answer },
 }
 
-// A burst from P on.
-fn burst(r: &mut [u64], mem: &mut [u64], budget: u64) -> Came
+// A burst from P on, and the end of the step after it unless that strayed.
+fn stretch(r: &mut [u64], mem: &mut [u64], budget: u64) -> Came
     requires { ⌜ Fitting (now r) (length (now mem)) ⌝ }
     requires { ⌜ (getD (now r) 0 0 < 2 ^ 24) × (budget ≤ 1000000) ⌝ }
     ensures { λ c. ⌜ Comes c budget (now (r .entry)) (now (r .exit)) (now (mem .entry)) (now (mem .exit)) ⌝ }
 {
     let f = access::reach(r, mem);
     let from = ParcelAddr(r[access::P]);
-    let b = take_burst(r, mem, f, from, budget);
-    let p = b.p;
-    let steps = b.steps;
+    let burst = take_burst(r, mem, f, from, budget);
+    let p = burst.p;
+    let steps = burst.steps;
     if steps == budget {
         set_p(r, p);
         return Came::Spent(steps);
     }
-    let work = b.work;
-    match strays(work) {
+    let work = burst.work;
+    match strays_of(work) {
         Strays::One => Came::StrayedOne { steps, p },
         Strays::Two => Came::StrayedTwo { steps, p },
         Strays::None => Came::Ended {
@@ -260,7 +261,7 @@ pub struct Turned {
 fn strayed(r: &mut [u64], mem: &mut [u64], steps: u64, p: ParcelAddr, work: Work) -> Turned
     requires { ⌜ Fitting (now r) (length (now mem)) ⌝ }
     requires { ⌜ (p .0 < 2 ^ 24) × (steps ≤ 1000000) ⌝ }
-    ensures { λ t. ⌜ Strayed t steps (p .0) work (now (r .entry)) (now (r .exit)) (now (mem .entry)) (now (mem .exit)) ⌝ }
+    ensures { λ t. ⌜ Strayed (t .last) (t .stray) (t .steps) steps (p .0) work (now (r .entry)) (now (r .exit)) (now (mem .entry)) (now (mem .exit)) ⌝ }
 {
     let stray = memory::strays::of(r, mem.len() as u64, work);
     let answer = ranged(r, mem, p);
@@ -273,8 +274,9 @@ fn strayed(r: &mut [u64], mem: &mut [u64], steps: u64, p: ParcelAddr, work: Work
 
 // What a burst came to, its last step ended.
 fn end(r: &mut [u64], mem: &mut [u64], came: Came) -> Turned
-    requires { ⌜ Ending came (now r) (length (now mem)) ⌝ }
-    ensures { λ t. ⌜ Ended t came (now (r .entry)) (now (r .exit)) (now (mem .entry)) (now (mem .exit)) ⌝ }
+    requires { ⌜ Fitting (now r) (length (now mem)) ⌝ }
+    requires { ⌜ Sound came (now r) ⌝ }
+    ensures { λ t. ⌜ Ended (t .last) (t .stray) (t .steps) came (now (r .entry)) (now (r .exit)) (now (mem .entry)) (now (mem .exit)) ⌝ }
 {
     match came {
         Came::Spent(steps) => Turned {
@@ -294,6 +296,7 @@ fn end(r: &mut [u64], mem: &mut [u64], came: Came) -> Turned
 
 // One stray, or if there is none the other.
 fn or_else(stray: Stray, other: Stray) -> Stray
+    ensures { λ s. ⌜ s ≡ orElse stray other ⌝ }
 {
     match stray {
         Stray::Clean => other,
@@ -303,6 +306,7 @@ fn or_else(stray: Stray, other: Stray) -> Stray
 
 // Whether steps go on after an answer: where it stepped, and after an exchange if they go through it.
 fn answer_goes(answer: Answer, through: bool) -> bool
+    ensures { λ t. ⌜ t ≡ goes through answer ⌝ }
 {
     match answer {
         Answer::Stepped => true,
@@ -312,7 +316,9 @@ fn answer_goes(answer: Answer, through: bool) -> bool
     }
 }
 
-fn goes(last: Last, through: bool) -> bool
+// The same of a last answer.
+fn last_goes(last: Last, through: bool) -> bool
+    ensures { λ t. ⌜ t ≡ lastGoes through last ⌝ }
 {
     match last {
         Last::Nothing => false,
@@ -321,18 +327,22 @@ fn goes(last: Last, through: bool) -> bool
     }
 }
 
-// Stretches until the budget is spent or the last answer ends them. One is taken at two places, so that a program that only runs gets the
-// code that the library has.
+// Steps until the budget is spent or an answer ends them. A stretch is taken at two places, so that the loop of steps stays a function of
+// its own, whatever the program.
 fn take(r: &mut [u64], mem: &mut [u64], budget: u64, through: bool) -> Turned
+    requires { ⌜ Fitting (now r) (length (now mem)) ⌝ }
+    requires { ⌜ (getD (now r) 0 0 < 2 ^ 24) × (budget ≤ 1000000) ⌝ }
+    ensures { λ t. ⌜ turned (t .last) (t .stray) (t .steps) (stateOf (now (r .exit))) (sharing (now (mem .exit)))
+        ≡ stepsOf through budget Nothing Clean 0 (stateOf (now (r .entry))) (sharing (now (mem .entry))) ⌝ }
 {
-    let start = burst(r, mem, budget);
+    let start = stretch(r, mem, budget);
     let first = end(r, mem, start);
     let mut last = first.last;
     let mut stray = first.stray;
     let mut steps = first.steps;
-    while steps < budget && goes(last, through) {
-        let b = burst(r, mem, budget - steps);
-        let next = end(r, mem, b);
+    while steps < budget && last_goes(last, through) {
+        let came = stretch(r, mem, budget - steps);
+        let next = end(r, mem, came);
         let answer = next.last;
         let newer = next.stray;
         last = answer;

@@ -1,12 +1,12 @@
 // A run: steps until the budget is spent or one stops, through exchanges.
 ghost use mathlib.Core.Path.{_≡_};
-ghost use mathlib.Core.List.{List};
-ghost use Prim.Native.Nat.{ℕ, _^_, _<_, _≤_};
+ghost use Prim.Native.Nat.{_^_, _<_, _≤_};
 ghost use lib.ListN.{length, getD};
+ghost use Rattle.machine.specs.declared.Stray.the-variants.{Clean};
 ghost use Rattle.machine.specs.State.{sharing};
 ghost use Rattle.machine.specs.Run.{endingOf, ended, runOf};
 ghost use Rattle.machine.specs.Layout.{stateOf};
-ghost use Rattle.turns.specs.Turn.{Fitting, exchanges, isExchange, lastEnding};
+ghost use Rattle.turns.specs.Turn.{Fitting, lastEnding};
 use machine::Answer;
 use machine::Ending;
 use machine::Last;
