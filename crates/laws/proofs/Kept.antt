@@ -23,7 +23,7 @@ use Rattle.machine.specs.Act.{Instr, Act, Does, Goes, Reads, Writes, LeavesNorm
 use Rattle.machine.specs.Work.{Done, perform, statusOf, workOf}
 use Rattle.machine.specs.Exchange.{packageOf, save, packageWord, loaded}
 use Rattle.machine.specs.Step.{Out, exchange, ranged, finish, finishOf, stepOf, stops, goesOn, counted}
-use Rattle.machine.specs.Run.{blankRegisters, blankFrame, startOf, Turned, turnOf, Ended, runOf, Side, sideAfter, PairEnded, pairOf}
+use Rattle.machine.specs.Run.{blankRegisters, blankFrame, startOf, Turned, turnOf, Ended, runOf, Half, halfAfter, PairEnded, pairOf}
 use Rattle.machine.specs.Refusal.{below, stateFits, memoryFits, firstDue, stepRefusal}
 use Rattle.access.specs.Executed.{FrameOk, ControlOk}
 use Rattle.access.proofs.Fits.{Fit, fit, fits}
@@ -274,7 +274,7 @@ module _ (Q : State → Shared → Type 0) (step : (st : State) (sh : Shared) �
 module _ (Q : State → State → Shared → Type 0)
     (first : (x y : State) (sh : Shared) → Q x y sh → Q (stepOf x sh .state) y (stepOf x sh .shared))
     (second : (x y : State) (sh : Shared) → Q x y sh → Q x (stepOf y sh .state) (stepOf y sh .shared)) where
-  pub pair-keeps : (bytes : List ℕ) (l : Last) (n : ℕ) (x y : Side) (sh : Shared) → Q (x .state) (y .state) sh
+  pub pair-keeps : (bytes : List ℕ) (l : Last) (n : ℕ) (x y : Half) (sh : Shared) → Q (x .state) (y .state) sh
       → Q (pairOf bytes l n x y sh .first .state) (pairOf bytes l n x y sh .second .state) (pairOf bytes l n x y sh .shared)
   unfolding pairOf
   pair-keeps [] l n x y sh q = q
@@ -282,12 +282,12 @@ module _ (Q : State → State → Shared → Type 0)
       let o = stepOf (x .state) sh in
       let k = first (x .state) (y .state) sh q in
       picked (λ (e : PairEnded). Q (e .first .state) (e .second .state) (e .shared)) (goesOn (o .answer))
-      (pair-keeps bytes (last.Was (o .answer)) (n + counted (o .answer)) (sideAfter x o) y (o .shared) k) k
+      (pair-keeps bytes (last.Was (o .answer)) (n + counted (o .answer)) (halfAfter x o) y (o .shared) k) k
   pair-keeps (suc b ∷ bytes) l n x y sh q =
       let o = stepOf (y .state) sh in
       let k = second (x .state) (y .state) sh q in
       picked (λ (e : PairEnded). Q (e .first .state) (e .second .state) (e .shared)) (goesOn (o .answer))
-      (pair-keeps bytes (last.Was (o .answer)) (n + counted (o .answer)) x (sideAfter y o) (o .shared) k) k
+      (pair-keeps bytes (last.Was (o .answer)) (n + counted (o .answer)) x (halfAfter y o) (o .shared) k) k
 
 held-step : (st : State) (sh : Shared) → HeldIn st sh → HeldIn (stepOf st sh .state) (stepOf st sh .shared)
 held-step st sh k = step-fits st sh (k .0) (k .1)
@@ -307,7 +307,7 @@ module _ (budget : ℕ) (s : Stray) (n : ℕ) (st : State) (sh : Shared) where
   pub run-processor : runOf budget s n st sh .state .frame .processor ≡ st .frame .processor
   run-processor = run-keeps (λ x i. x .frame .processor ≡ st .frame .processor) (λ x i e. step-processor x i ∙ e) budget s n st sh refl
 
-module _ (bytes : List ℕ) (l : Last) (n : ℕ) (x y : Side) (sh : Shared) where
+module _ (bytes : List ℕ) (l : Last) (n : ℕ) (x y : Half) (sh : Shared) where
   pub pair-fits : Held (x .state) → Held (y .state) → below (2 ^ 64) (sh .mem) ≡ true
       → Held (pairOf bytes l n x y sh .first .state) × Held (pairOf bytes l n x y sh .second .state)
       × (below (2 ^ 64) (pairOf bytes l n x y sh .shared .mem) ≡ true)

@@ -2,15 +2,20 @@
 ghost use mathlib.Core.Path.{_≡_};
 ghost use Prim.Native.Nat.{_-_, _^_, _<_, _≤_};
 ghost use lib.ListN.{length, getD};
+ghost use lib.Dec.{eqb};
 ghost use Rattle.machine.specs.declared.Last.the-variants.{Nothing};
+ghost use Rattle.machine.specs.declared.Stray.{Stray};
+ghost use Rattle.machine.specs.Word.{pick};
 ghost use Rattle.machine.specs.State.{sharing};
+ghost use Rattle.machine.specs.Memory.{orElse};
 ghost use Rattle.machine.specs.Step.{out, finish};
-ghost use Rattle.machine.specs.Run.{pairEnded, pairOf};
-ghost use Rattle.machine.specs.Layout.{part, registersOf, stateOf, firstOf, secondOf};
+ghost use Rattle.machine.specs.Run.{half, halfWith, pairEnded, pairOf};
+ghost use Rattle.machine.specs.Layout.{part, registersOf, frameOf, stateOf, firstOf, secondOf};
+ghost use Rattle.access.specs.Executed.{told};
 ghost use Rattle.dispatch.specs.Table.{Ready, Works};
 ghost use Rattle.laws.proofs.Laws.{Narrow};
 ghost use Rattle.turns.specs.Turn.{stateAt, Fitting};
-ghost use Rattle.turns.specs.Pair.{Side, sideOf, Passes, PairBursts};
+ghost use Rattle.turns.specs.Pair.{Side, sideOf, Passes, Both, PairBursts};
 use crate::Moved;
 use machine::Answer;
 use machine::Last;
@@ -53,13 +58,23 @@ fn keep_p(pair: &mut [u64], at: usize, p: ParcelAddr)
     crate::set_p(r, p)
 }
 
+// The stray of its step.
+fn stray_at(pair: &[u64], words: u64, at: usize, w: Work) -> Stray
+    requires { ⌜ (length (now pair) ≡ 1344) × Side at ⌝ }
+    requires { ⌜ (frameOf (part at 672 (now pair)) .dba < 2 ^ 17) × (frameOf (part at 672 (now pair)) .dla < 2 ^ 17) ⌝ }
+    ensures { λ s. ⌜ s ≡ told w (part at 672 (now (pair .entry))) words ⌝ }
+{
+    let end = at + access::WORDS;
+    memory::strays::of(&pair[at..end], words, w)
+}
+
 // The end of its step.
 fn finish_at(pair: &mut [u64], mem: &mut [u64], at: usize, p: ParcelAddr, w: Work) -> Answer
     requires { ⌜ (length (now pair) ≡ 1344) × Side at ⌝ }
     requires { ⌜ Fitting (part at 672 (now pair)) (length (now mem)) ⌝ }
     requires { ⌜ (p .0 < 2 ^ 24) × Narrow w ⌝ }
-    ensures { λ o. ⌜ out o (stateOf (part at 672 (now (pair .exit)))) (sharing (now (mem .exit)))
-        ≡ finish (stateAt p (part at 672 (now (pair .entry)))) w (registersOf (part at 672 (now (pair .entry)))) (sharing (now (mem .entry))) ⌝ }
+    ensures { λ o. ⌜ ((s : Stray) → out o s (stateOf (part at 672 (now (pair .exit)))) (sharing (now (mem .exit)))
+        ≡ finish (stateAt p (part at 672 (now (pair .entry)))) w s (registersOf (part at 672 (now (pair .entry)))) (sharing (now (mem .entry)))) ⌝ }
     ensures { λ o. ⌜ part (672 - at) 672 (now (pair .exit)) ≡ part (672 - at) 672 (now (pair .entry)) ⌝ }
 {
     let end = at + access::WORDS;
@@ -106,12 +121,11 @@ pub struct PairBurst {
     pub work: Work,
 }
 
-// Steps until the schedule is spent or one does more than step. What both reach stays as it is all this time.
-fn take(pair: &mut [u64], mem: &mut [u64], schedule: &[u8]) -> PairBurst
-    requires { ⌜ (length (now pair) ≡ 1344) × (length (now schedule) ≤ 65536) ⌝ }
-    requires { ⌜ Fitting (part 0 672 (now pair)) (length (now mem)) × Fitting (part 672 672 (now pair)) (length (now mem)) ⌝ }
-    requires { ⌜ (getD (now pair) 0 0 < 2 ^ 24) × (getD (now pair) 672 0 < 2 ^ 24) ⌝ }
-    ensures { λ o. ⌜ PairBursts (o .at) (o .p) (o .steps) (o .work) (now (schedule .entry)) (now (pair .entry)) (now (pair .exit))
+// Steps from byte `from` of a schedule on, until it is spent or one does more than step. What both reach stays as it is all this time.
+fn take(pair: &mut [u64], mem: &mut [u64], schedule: &[u8], from: usize) -> PairBurst
+    requires { ⌜ (length (now pair) ≡ 1344) × (length (now schedule) ≤ 65536) × (from ≤ length (now schedule)) ⌝ }
+    requires { ⌜ Both (now pair) (length (now mem)) ⌝ }
+    ensures { λ o. ⌜ PairBursts (o .at) (o .p) (o .steps) (o .work) (now (schedule .entry)) from (now (pair .entry)) (now (pair .exit))
         (now (mem .entry)) (now (mem .exit)) ⌝ }
 {
     let first = reach_at(pair, mem, 0);
@@ -122,7 +136,7 @@ fn take(pair: &mut [u64], mem: &mut [u64], schedule: &[u8]) -> PairBurst
         f: first,
         byte: 0,
     };
-    let mut n: usize = 0;
+    let mut n = from;
     while n < schedule.len() {
         if schedule[n] != next.byte {
             next = pass(pair, first, second, next, schedule[n]);
@@ -157,42 +171,74 @@ fn take(pair: &mut [u64], mem: &mut [u64], schedule: &[u8]) -> PairBurst
     }
 }
 
-// The last answer of a pair run, and how many of its steps stepped or exchanged.
-pub struct Paired {
-    pub last: Last,
+// The strays of the two processors.
+pub struct Told {
     pub first: Stray,
     pub second: Stray,
+}
+
+// The one at `at` has a newer, or not.
+fn newer(strays: Told, at: usize, stray: Stray) -> Told
+    ensures { λ o. ⌜ (o .first ≡ pick (eqb at 0) (orElse stray (strays .first)) (strays .first))
+        × (o .second ≡ pick (eqb at 0) (strays .second) (orElse stray (strays .second))) ⌝ }
+{
+    let first = strays.first;
+    let second = strays.second;
+    if at == 0 {
+        return Told {
+            first: crate::or_else(stray, first),
+            second,
+        };
+    }
+    Told {
+        first,
+        second: crate::or_else(stray, second),
+    }
+}
+
+// The last answer of a pair run; for each processor the stray of its own last step that had one; and how many steps stepped or exchanged.
+pub struct Paired {
+    pub last: Last,
+    pub strays: Told,
     pub steps: u64,
 }
 
 // A step for each byte of a schedule, 0 naming the first processor, up to and including the first that exchanges or stops.
 pub fn take_schedule(pair: &mut [u64], mem: &mut [u64], schedule: &[u8]) -> Paired
     requires { ⌜ (length (now pair) ≡ 1344) × (length (now schedule) ≤ 65536) ⌝ }
-    requires { ⌜ Fitting (part 0 672 (now pair)) (length (now mem)) × Fitting (part 672 672 (now pair)) (length (now mem)) ⌝ }
-    requires { ⌜ (getD (now pair) 0 0 < 2 ^ 24) × (getD (now pair) 672 0 < 2 ^ 24) ⌝ }
-    ensures { λ o. ⌜ pairEnded (o .last) (o .steps) (firstOf (now (pair .exit))) (secondOf (now (pair .exit))) (sharing (now (mem .exit)))
-        ≡ pairOf (now (schedule .entry)) Nothing 0 (firstOf (now (pair .entry))) (secondOf (now (pair .entry))) (sharing (now (mem .entry))) ⌝ }
+    requires { ⌜ Both (now pair) (length (now mem)) ⌝ }
+    ensures { λ o. ⌜ pairEnded (o .last) (o .steps) (halfWith (firstOf (now (pair .exit))) (o .strays .first))
+        (halfWith (secondOf (now (pair .exit))) (o .strays .second)) (sharing (now (mem .exit)))
+        ≡ pairOf (now (schedule .entry)) Nothing 0 (half (firstOf (now (pair .entry)))) (half (secondOf (now (pair .entry)))) (sharing (now (mem .entry))) ⌝ }
 {
-    let burst = take(pair, mem, schedule);
-    let at = burst.at;
-    let p = burst.p;
-    let n = burst.steps;
-    let steps = n as u64;
-    if n == schedule.len() {
-        keep_p(pair, at, p);
-        return Paired {
-            last: crate::last_after(steps),
-            first: Stray::Clean,
-            second: Stray::Clean,
-            steps,
-        };
-    }
-    let work = burst.work;
-    let answer = finish_at(pair, mem, at, p, work);
-    Paired {
-        last: Last::Was(answer),
+    let mut strays = Told {
         first: Stray::Clean,
         second: Stray::Clean,
-        steps: steps + crate::count_of(answer),
+    };
+    let mut burst = take(pair, mem, schedule, 0);
+    while burst.steps < schedule.len() {
+        let at = burst.at;
+        let n = burst.steps;
+        let p = burst.p;
+        let work = burst.work;
+        let stray = stray_at(pair, mem.len() as u64, at, work);
+        let answer = finish_at(pair, mem, at, p, work);
+        strays = newer(strays, at, stray);
+        if !crate::answer_goes(answer, false) {
+            return Paired {
+                last: Last::Was(answer),
+                strays,
+                steps: n as u64 + crate::count_of(answer),
+            };
+        }
+        burst = take(pair, mem, schedule, n + 1);
+    }
+    let p = burst.p;
+    keep_p(pair, burst.at, p);
+    let steps = burst.steps as u64;
+    Paired {
+        last: crate::last_after(steps),
+        strays,
+        steps,
     }
 }

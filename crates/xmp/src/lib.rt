@@ -13,6 +13,7 @@ use machine::Reply;
 use machine::Stray;
 use turns::Turned;
 use turns::pair::Paired;
+use turns::pair::Told;
 use turns::run::Ran;
 
 // Starts a processor from a package: it only loads, B, T, V and VM being zero. The result is the number of its refusal, 0 for none.
@@ -100,8 +101,10 @@ pub fn pair_run(pair: &mut [u64; 1344], mem: &mut [u64], schedule: &[u8]) -> Pai
     if no != 0 {
         return Paired {
             last: Last::Refused(no),
-            first: Stray::Clean,
-            second: Stray::Clean,
+            strays: Told {
+                first: Stray::Clean,
+                second: Stray::Clean,
+            },
             steps: 0,
         };
     }
