@@ -1,5 +1,6 @@
 use mathlib.Core.Path.{_≡_}
 use lib.ListN.{length}
+use Rattle.machine.specs.declared.Stray.{Stray}
 use Rattle.machine.specs.State.{sharing}
 use Rattle.machine.specs.Step as step
 use Rattle.machine.specs.Layout.{registersOf, stateOf}
@@ -22,8 +23,8 @@ returns c =
     let side = start .pre .0 .1 in
     let whole = start .pre .0 .0 in
     let x = start .args in (
-      lifted _ _ _ side whole long (λ l l′. step.out (finish .result) (stateOf l′) (sharing (finish .last .1 .0))
-          ≡ step.finish (stateAt (x .p) l) (x .w) (registersOf l) (sharing (x .mem .now))) (finish .ensures),
+      lifted _ _ _ side whole long (λ l l′. (s : Stray) → step.out (finish .result) s (stateOf l′) (sharing (finish .last .1 .0))
+          ≡ step.finish (stateAt (x .p) l) (x .w) s (registersOf l) (sharing (x .mem .now))) (finish .ensures),
       kept (x .at) (x .pair .now) (finish .last .0) side whole long,
     )
 
