@@ -408,10 +408,12 @@ pub fn place_of(r: &[u64], words: u64, n: u64) -> Place
     let limit = r[DLA] * 32;
     let w = word_at(n);
     let sum = (w.0 + base) % 4194304;
-    if sum < base {
+    let over = limit <= sum;
+    let below = sum < base;
+    if below {
         return Place::Outside(Cause::BelowBase);
     }
-    if limit <= sum {
+    if over {
         return Place::Outside(Cause::OverLimit);
     }
     if words <= sum {

@@ -24,33 +24,36 @@ pub extern "C" fn pulxarrid_start(
     xmp::start(state, mem, package, processor)
 }
 
-// One step: `answer` takes its kind and its value.
+// One step: `answer` takes its kind and its value, and its stray's cause and element.
 #[no_mangle]
 pub extern "C" fn pulxarrid_step(
     state: &mut [u64; 672],
     mem: &mut [u64],
-    answer: &mut [u64; 2],
+    answer: &mut [u64; 4],
 ) -> u64
     ensures { λ r. ⌜ left r (stateOf (now (state .exit)) ∷ []) (now (mem .exit) ∷ now (answer .exit) ∷ [])
         ≡ afterStep (now (answer .entry)) (stepCall (stateOf (now (state .entry))) (sharing (now (mem .entry)))) ⌝ }
 {
-    let reply = xmp::step(state, mem);
+    let replied = xmp::step(state, mem);
+    let reply = replied.reply;
     let n = numbers::of_reply(reply);
     if n[0] != 0 {
         return n[0];
     }
-    *answer = [n[1], n[2]];
+    let stray = replied.stray;
+    let s = numbers::of_stray(stray);
+    *answer = [n[1], n[2], s[0], s[1]];
     0
 }
 
 // Steps up to and including the first that exchanges or stops, at most `budget`: `report` takes the kind and the value of the
-// last answer, and the steps.
+// last answer, the steps, and the stray's cause and element.
 #[no_mangle]
 pub extern "C" fn pulxarrid_turn(
     state: &mut [u64; 672],
     mem: &mut [u64],
     budget: u64,
-    report: &mut [u64; 3],
+    report: &mut [u64; 5],
 ) -> u64
     ensures { λ r. ⌜ left r (stateOf (now (state .exit)) ∷ []) (now (mem .exit) ∷ now (report .exit) ∷ [])
         ≡ afterTurn (now (report .entry)) (turnCall (stateOf (now (state .entry))) (sharing (now (mem .entry))) budget) ⌝ }
@@ -61,17 +64,19 @@ pub extern "C" fn pulxarrid_turn(
     if n[0] != 0 {
         return n[0];
     }
-    *report = [n[1], n[2], turned.steps];
+    let stray = turned.stray;
+    let s = numbers::of_stray(stray);
+    *report = [n[1], n[2], turned.steps, s[0], s[1]];
     0
 }
 
-// At most `budget` steps: `report` takes the kind and the value of the ending, and the steps.
+// At most `budget` steps: `report` takes the kind and the value of the ending, the steps, and the stray's cause and element.
 #[no_mangle]
 pub extern "C" fn pulxarrid_run(
     state: &mut [u64; 672],
     mem: &mut [u64],
     budget: u64,
-    report: &mut [u64; 3],
+    report: &mut [u64; 5],
 ) -> u64
     ensures { λ r. ⌜ left r (stateOf (now (state .exit)) ∷ []) (now (mem .exit) ∷ now (report .exit) ∷ [])
         ≡ afterRun (now (report .entry)) (runCall (stateOf (now (state .entry))) (sharing (now (mem .entry))) budget) ⌝ }
@@ -82,7 +87,9 @@ pub extern "C" fn pulxarrid_run(
     if n[0] != 0 {
         return n[0];
     }
-    *report = [n[1], n[2], ran.steps];
+    let stray = ran.stray;
+    let s = numbers::of_stray(stray);
+    *report = [n[1], n[2], ran.steps, s[0], s[1]];
     0
 }
 

@@ -2,12 +2,32 @@
 ghost use mathlib.Core.Path.{_≡_};
 ghost use Prim.Native.Nat.{_+_, _*_, _/_, _^_, _<_, _≤_};
 ghost use lib.ListN.{length, getD};
-ghost use Rattle.machine.specs.Memory.{dataField, firstOutside};
+ghost use Rattle.machine.specs.Memory.{dataField, orElse, strayAt, firstOutside};
 ghost use Rattle.machine.specs.Layout.{frameOf, registersOf};
 ghost use Rattle.access.specs.Executed.{blockCount, blockBy, told};
 use machine::Place;
 use machine::Stray;
 use machine::Work;
+
+// One stray, or if there is none the other.
+pub fn or_else(stray: Stray, other: Stray) -> Stray
+    ensures { λ s. ⌜ s ≡ orElse stray other ⌝ }
+{
+    match stray {
+        Stray::Clean => other,
+        Stray::First { cause, element } => Stray::First { cause, element },
+    }
+}
+
+// An operand by its place.
+fn stray_at(place: Place, element: u64) -> Stray
+    ensures { λ s. ⌜ s ≡ strayAt element place ⌝ }
+{
+    match place {
+        Place::Inside(_) => Stray::Clean,
+        Place::Outside(cause) => Stray::First { cause, element },
+    }
+}
 
 // The first of n words at from, from + by, .. that lies outside.
 fn first_outside(r: &[u64], words: u64, from: u64, by: u64, n: u64) -> Stray
@@ -15,16 +35,16 @@ fn first_outside(r: &[u64], words: u64, from: u64, by: u64, n: u64) -> Stray
     requires { ⌜ (frameOf (now r) .dba < 2 ^ 17) × (frameOf (now r) .dla < 2 ^ 17) ⌝ }
     ensures { λ s. ⌜ s ≡ firstOutside (dataField (frameOf (now (r .entry)))) (λ e. from + e * by) words n ⌝ }
 {
+    let mut stray = Stray::Clean;
     let mut at = from;
     let mut element: u64 = 0;
     while element < n {
-        if let Place::Outside(cause) = access::place_of(r, words, at) {
-            return Stray::First { cause, element };
-        }
+        let here = stray_at(access::place_of(r, words, at), element);
+        stray = or_else(stray, here);
         at = std::num::wrapping_add_u64(at, by);
         element += 1;
     }
-    Stray::Clean
+    stray
 }
 
 // How many words a block move x has, and how far apart they are.

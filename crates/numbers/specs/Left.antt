@@ -6,7 +6,7 @@ use lib.Dec.{eqb}
 use Rattle.machine.specs.Word.{pick}
 use Rattle.machine.specs.State.{State}
 use Rattle.machine.specs.Run.{Turned, Ended, PairEnded}
-use Rattle.machine.specs.Call.{Started, Replied, replyNumbers, endingNumbers, lastNumbers}
+use Rattle.machine.specs.Call.{Started, Replied, replyNumbers, endingNumbers, lastNumbers, strayNumbers}
 
 pub record Left : Type 0 where
   pub number : ℕ
@@ -30,6 +30,13 @@ value numbers = getD numbers 2 0
 abbrev pub threeOf : List ℕ → List ℕ
 threeOf numbers = refused numbers ∷ kind numbers ∷ value numbers ∷ []
 
+-- of the numbers of a stray: the cause, 0 for none; its element
+abbrev pub cause : List ℕ → ℕ
+cause numbers = getD numbers 0 0
+
+abbrev pub element : List ℕ → ℕ
+element numbers = getD numbers 1 0
+
 -- a report: what was made or, refused, what it was
 abbrev pub unlessRefused : List ℕ → List ℕ → List ℕ → List ℕ
 unlessRefused numbers made found = pick (eqb (refused numbers) 0) made found
@@ -38,26 +45,32 @@ unlessRefused numbers made found = pick (eqb (refused numbers) 0) made found
 abbrev pub afterStart : Started → Left
 afterStart c = left (c .refused) (c .state ∷ []) []
 
--- a step: the kind and the value of its answer
+-- a step: the kind and the value of its answer, and its stray
 abbrev pub afterStep : List ℕ → Replied → Left
 afterStep answer c =
     let n = replyNumbers (c .reply) in
-    left (refused n) (c .state ∷ []) (c .shared .mem ∷ unlessRefused n (kind n ∷ value n ∷ []) answer ∷ [])
+    let s = strayNumbers (c .stray) in
+    left (refused n) (c .state ∷ []) (c .shared .mem ∷ unlessRefused n (kind n ∷ value n ∷ cause s ∷ element s ∷ []) answer ∷ [])
 
--- a turn: the kind and the value of its last answer, and the steps
+-- a turn: the kind and the value of its last answer, the steps, and the stray
 abbrev pub afterTurn : List ℕ → Turned → Left
 afterTurn report c =
     let n = lastNumbers (c .last) in
-    left (refused n) (c .state ∷ []) (c .shared .mem ∷ unlessRefused n (kind n ∷ value n ∷ c .steps ∷ []) report ∷ [])
+    let s = strayNumbers (c .stray) in
+    left (refused n) (c .state ∷ []) (c .shared .mem ∷ unlessRefused n (kind n ∷ value n ∷ c .steps ∷ cause s ∷ element s ∷ []) report ∷ [])
 
 -- a run: the same of its ending
 abbrev pub afterRun : List ℕ → Ended → Left
 afterRun report c =
     let n = endingNumbers (c .ending) in
-    left (refused n) (c .state ∷ []) (c .shared .mem ∷ unlessRefused n (kind n ∷ value n ∷ c .steps ∷ []) report ∷ [])
+    let s = strayNumbers (c .stray) in
+    left (refused n) (c .state ∷ []) (c .shared .mem ∷ unlessRefused n (kind n ∷ value n ∷ c .steps ∷ cause s ∷ element s ∷ []) report ∷ [])
 
--- a pair run: the same of its last answer
+-- a pair run: the same of its last answer, and of both processors the stray
 abbrev pub afterPair : List ℕ → PairEnded → Left
 afterPair report c =
     let n = lastNumbers (c .last) in
-    left (refused n) (c .first ∷ c .second ∷ []) (c .shared .mem ∷ unlessRefused n (kind n ∷ value n ∷ c .steps ∷ []) report ∷ [])
+    let s = strayNumbers (c .first .stray) in
+    let t = strayNumbers (c .second .stray) in
+    left (refused n) (c .first .state ∷ c .second .state ∷ [])
+    (c .shared .mem ∷ unlessRefused n (kind n ∷ value n ∷ c .steps ∷ cause s ∷ element s ∷ cause t ∷ element t ∷ []) report ∷ [])

@@ -1,12 +1,14 @@
-// The answers of the library as numbers: that of a refusal, 0 for none; the kind; its value.
+// The answers of the library as numbers: that of a refusal, 0 for none; the kind; its value. And a stray: the cause, 0 for none; its element.
 ghost use mathlib.Core.Path.{_≡_};
 ghost use mathlib.Core.List.{_∷_};
-ghost use Rattle.machine.specs.Call.{answerNumbers, replyNumbers, endingNumbers, lastNumbers};
+ghost use Rattle.machine.specs.Call.{answerNumbers, replyNumbers, endingNumbers, lastNumbers, causeNumber, strayNumbers};
 ghost use Rattle.numbers.specs.Left.{threeOf};
 use machine::Answer;
+use machine::Cause;
 use machine::Ending;
 use machine::Last;
 use machine::Reply;
+use machine::Stray;
 
 // The kind of no answer: past every kind that an answer may have.
 const NOTHING: u64 = 15;
@@ -51,5 +53,26 @@ pub fn of_last(o: Last) -> [u64; 3]
         Last::Nothing => [0, NOTHING, 0],
         Last::Was(answer) => of_answer(answer),
         Last::Refused(n) => [n, NOTHING, 0],
+    }
+}
+
+// Why an operand lay outside.
+fn of_cause(cause: Cause) -> u64
+    ensures { λ n. ⌜ n ≡ causeNumber cause ⌝ }
+{
+    match cause {
+        Cause::BelowBase => 1,
+        Cause::OverLimit => 2,
+        Cause::BeyondMemory => 3,
+    }
+}
+
+// A stray: its cause, 0 for none, and its element.
+pub fn of_stray(stray: Stray) -> [u64; 2]
+    ensures { λ r. ⌜ r ≡ strayNumbers stray ⌝ }
+{
+    match stray {
+        Stray::Clean => [0, 0],
+        Stray::First { cause, element } => [of_cause(cause), element],
     }
 }

@@ -8,13 +8,13 @@ ghost use Rattle.machine.specs.Layout.{firstOf, secondOf};
 ghost use Rattle.numbers.specs.Left.{left, afterPair};
 
 // Steps of two processors along a schedule, the words of the first before those of the second: `report` takes the kind and the
-// value of the last answer, and the steps.
+// value of the last answer, the steps, and of each processor its stray's cause and element.
 #[no_mangle]
 pub extern "C" fn pulxarrid_pair_run(
     pair: &mut [u64; 1344],
     mem: &mut [u64],
     schedule: &[u8],
-    report: &mut [u64; 3],
+    report: &mut [u64; 7],
 ) -> u64
     ensures { λ r. ⌜ left r (firstOf (now (pair .exit)) ∷ secondOf (now (pair .exit)) ∷ []) (now (mem .exit) ∷ now (report .exit) ∷ [])
         ≡ afterPair (now (report .entry))
@@ -26,6 +26,11 @@ pub extern "C" fn pulxarrid_pair_run(
     if n[0] != 0 {
         return n[0];
     }
-    *report = [n[1], n[2], paired.steps];
+    let strays = paired.strays;
+    let first = strays.first;
+    let second = strays.second;
+    let s = numbers::of_stray(first);
+    let t = numbers::of_stray(second);
+    *report = [n[1], n[2], paired.steps, s[0], s[1], t[0], t[1]];
     0
 }

@@ -10,7 +10,6 @@ ghost use Rattle.machine.specs.declared.Stray.{Stray};
 ghost use Rattle.machine.specs.declared.Stray.the-variants.{Clean};
 ghost use Rattle.machine.specs.declared.Last.the-variants.{Nothing};
 ghost use Rattle.machine.specs.State.{sharing};
-ghost use Rattle.machine.specs.Memory.{orElse};
 ghost use Rattle.machine.specs.Step.{out, inUserMode, exchange, ranged, finish, counted};
 ghost use Rattle.machine.specs.Run.{turned, turnOf};
 ghost use Rattle.machine.specs.Layout.{registersOf, frameOf, stateOf};
@@ -294,16 +293,6 @@ fn end(r: &mut [u64], mem: &mut [u64], came: Came) -> Turned
     }
 }
 
-// One stray, or if there is none the other.
-fn or_else(stray: Stray, other: Stray) -> Stray
-    ensures { λ s. ⌜ s ≡ orElse stray other ⌝ }
-{
-    match stray {
-        Stray::Clean => other,
-        Stray::First { cause, element } => Stray::First { cause, element },
-    }
-}
-
 // Whether steps go on after an answer: where it stepped, and after an exchange if they go through it.
 fn answer_goes(answer: Answer, through: bool) -> bool
     ensures { λ t. ⌜ t ≡ goes through answer ⌝ }
@@ -346,7 +335,7 @@ fn take(r: &mut [u64], mem: &mut [u64], budget: u64, through: bool) -> Turned
         let answer = next.last;
         let newer = next.stray;
         last = answer;
-        stray = or_else(newer, stray);
+        stray = memory::strays::or_else(newer, stray);
         steps += next.steps;
     }
     Turned { last, stray, steps }

@@ -186,13 +186,13 @@ fn newer(strays: Told, at: usize, stray: Stray) -> Told
     let second = strays.second;
     if at == 0 {
         return Told {
-            first: crate::or_else(stray, first),
+            first: memory::strays::or_else(stray, first),
             second,
         };
     }
     Told {
         first,
-        second: crate::or_else(stray, second),
+        second: memory::strays::or_else(stray, second),
     }
 }
 

@@ -13,8 +13,11 @@ use Rattle.machine.specs.declared.Answer.the-variants.{Stepped, Exchanged, NotH
 use Rattle.machine.specs.declared.Last.{Last}
 use Rattle.machine.specs.declared.Last.the-variants as last
 use Rattle.machine.specs.declared.Reply.the-variants.{Answered}
+use Rattle.machine.specs.declared.Stray.{Stray}
+use Rattle.machine.specs.declared.Stray.the-variants.{Clean, First}
 use Rattle.machine.specs.Word.{pick}
 use Rattle.machine.specs.State.{State, Shared, sharing}
+use Rattle.machine.specs.Memory.{orElse}
 use Rattle.machine.specs.Exchange.{loaded}
 use Rattle.machine.specs.Step.{Out, stepOf, goesOn, counted}
 use Rattle.machine.specs.Run.{zeros, blankRegisters, blankFrame, startOf, Turned, turned, turnOf}
@@ -24,6 +27,7 @@ use Rattle.machine.specs.Layout.{part, registersOf, frameOf, stateOf, firstOf, 
 use Rattle.access.proofs.Places.{part-at}
 use Rattle.access.proofs.Fits.{Fit, fit}
 use Rattle.turns.specs.Turn.{Fitting}
+use Rattle.turns.specs.Pair.{Both}
 use Rattle.xmp.specs.Reply.{replyOf}
 
 -- two ensures of one call: what it gives, and the numbers of its answer
@@ -91,7 +95,7 @@ part-long pair at long h = length-take-le 672 (drop at pair) (omega (arith, leng
 pub pair-allowed : (pair : List ℕ) (len : ℕ) (schedule : List ℕ) → length pair ≡ 1344
     → pairRefusal len (firstOf pair) (secondOf pair) schedule ≡ 0
     → ((length pair ≡ 1344) × (length schedule ≤ 65536))
-    × ((Fitting (part 0 672 pair) len × Fitting (part 672 672 pair) len) × ((getD pair 0 0 < 2 ^ 24) × (getD pair 672 0 < 2 ^ 24)))
+    × Both pair len
 unfolding pairRefusal
 pair-allowed pair len schedule long e =
     let x = firstOf pair in
@@ -107,27 +111,36 @@ pair-allowed pair len schedule long e =
     let one = fitting (part 0 672 pair) len (part-long pair 0 long (omega arith)) m (omega (arith, eqb-true (x .frame .processor) 0 (n .0))) (s .0) in
     let two = fitting (part 672 672 pair) len (part-long pair 672 long (omega arith)) m (omega (arith, eqb-true (y .frame .processor) 1 (n .1))) (s .1) in (
       (long, omega (arith, ltb-false 65536 (length schedule) (c .0))),
-      ((one .0, two .0), (rw (← part-at 0 672 pair 0 (omega arith)) (one .1), rw (← part-at 672 672 pair 0 (omega arith)) (two .1))),
+      record {
+        first = one .0;
+        second = two .0;
+        narrow = (rw (← part-at 0 672 pair 0 (omega arith)) (one .1), rw (← part-at 672 672 pair 0 (omega arith)) (two .1));
+      },
     )
 
 -- a turn of one step is the step
+or-clean : (s : Stray) → orElse s Clean ≡ s
+or-clean Clean = refl
+or-clean (First cause e) = refl
+
 turn-one : (st : State) (sh : Shared)
-    → turnOf 1 last.Nothing 0 st sh ≡ turned (last.Was (stepOf st sh .answer)) (counted (stepOf st sh .answer)) (stepOf st sh .state) (stepOf st sh .shared)
+    → turnOf 1 last.Nothing Clean 0 st sh
+    ≡ turned (last.Was (stepOf st sh .answer)) (stepOf st sh .stray) (counted (stepOf st sh .answer)) (stepOf st sh .state) (stepOf st sh .shared)
 unfolding turnOf
-turn-one st sh = go (stepOf st sh .answer)
+turn-one st sh = rw (or-clean (stepOf st sh .stray)) (go (stepOf st sh .answer))
   where
-    go : (o : Answer)
-        → pick (goesOn o) (turned (last.Was o) (0 + counted o) (stepOf st sh .state) (stepOf st sh .shared))
-        (turned (last.Was o) (0 + counted o) (stepOf st sh .state) (stepOf st sh .shared))
-        ≡ turned (last.Was o) (counted o) (stepOf st sh .state) (stepOf st sh .shared)
+    t : Answer → ℕ → Turned
+    t o n = turned (last.Was o) (stepOf st sh .stray) n (stepOf st sh .state) (stepOf st sh .shared)
+
+    go : (o : Answer) → pick (goesOn o) (t o (0 + counted o)) (t o (0 + counted o)) ≡ t o (counted o)
     go Stepped = refl
     go (Exchanged flags) = refl
     go (NotHeld p) = refl
     go (MonitorFetch p) = refl
 
-pub stepped : (l : Last) (n : ℕ) (st st′ : State) (sh sh′ : Shared) → turned l n st′ sh′ ≡ turnOf 1 last.Nothing 0 st sh
-    → replied (replyOf l) st′ sh′ ≡ replied (Answered (stepOf st sh .answer)) (stepOf st sh .state) (stepOf st sh .shared)
-stepped l n st st′ sh sh′ e = ap (λ (t : Turned). replied (replyOf (t .last)) (t .state) (t .shared)) (e ∙ turn-one st sh)
+pub stepped : (l : Last) (s : Stray) (n : ℕ) (st st′ : State) (sh sh′ : Shared) → turned l s n st′ sh′ ≡ turnOf 1 last.Nothing Clean 0 st sh
+    → replied (replyOf l) s st′ sh′ ≡ replied (Answered (stepOf st sh .answer)) (stepOf st sh .stray) (stepOf st sh .state) (stepOf st sh .shared)
+stepped l s n st st′ sh sh′ e = ap (λ (t : Turned). replied (replyOf (t .last)) (t .stray) (t .state) (t .shared)) (e ∙ turn-one st sh)
 
 -- a processor's words all zero but its number load as a start does
 pub zeroed : (mem : List ℕ) (x n : ℕ) (w : List ℕ) → w ≡ set (replicate 672 0) 15 n → loaded mem x (registersOf w) (frameOf w) ≡ startOf mem x n

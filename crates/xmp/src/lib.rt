@@ -1,11 +1,13 @@
 // The public functions: a start, a step, a turn, a run, a pair run. A processor is 672 lent words (machine/specs/Layout.antt), worked on in
 // place. No caller is relied on: each call does its work, or refuses by a number with all as it was.
 ghost use mathlib.Core.Path.{_≡_};
+ghost use mathlib.Core.List.{_++_};
 ghost use Rattle.machine.specs.State.{sharing};
-ghost use Rattle.machine.specs.Run.{turned, ended, pairEnded};
-ghost use Rattle.machine.specs.Call.{started, startCall, replied, stepCall, turnCall, runCall, pairCall, replyNumbers, endingNumbers, lastNumbers};
+ghost use Rattle.machine.specs.Run.{turned, ended, halfWith, pairEnded};
+ghost use Rattle.machine.specs.Call.{started, startCall, replied, stepCall, turnCall, runCall, pairCall};
+ghost use Rattle.machine.specs.Call.{replyNumbers, endingNumbers, lastNumbers, strayNumbers};
 ghost use Rattle.machine.specs.Layout.{stateOf, firstOf, secondOf};
-ghost use Rattle.xmp.specs.Reply.{replyOf};
+ghost use Rattle.xmp.specs.Reply.{replyOf, stepNumbers, turnNumbers, runNumbers, pairNumbers};
 use machine::Answer;
 use machine::Ending;
 use machine::Last;
@@ -41,25 +43,41 @@ fn reply_of(last: Last) -> Reply
     }
 }
 
+// What a step gives: its answer, or the number of its refusal; and its stray.
+pub struct Replied {
+    pub reply: Reply,
+    pub stray: Stray,
+}
+
 // One step.
-pub fn step(r: &mut [u64; 672], mem: &mut [u64]) -> Reply
-    ensures { λ o. ⌜ replied o (stateOf (now (r .exit))) (sharing (now (mem .exit))) ≡ stepCall (stateOf (now (r .entry))) (sharing (now (mem .entry))) ⌝ }
-    ensures { λ o. ⌜ replyNumbers o ≡ replyNumbers (stepCall (stateOf (now (r .entry))) (sharing (now (mem .entry))) .reply) ⌝ }
+pub fn step(r: &mut [u64; 672], mem: &mut [u64]) -> Replied
+    ensures { λ o. ⌜ replied (o .reply) (o .stray) (stateOf (now (r .exit))) (sharing (now (mem .exit)))
+        ≡ stepCall (stateOf (now (r .entry))) (sharing (now (mem .entry))) ⌝ }
+    ensures { λ o. ⌜ replyNumbers (o .reply) ++ strayNumbers (o .stray)
+        ≡ stepNumbers (stepCall (stateOf (now (r .entry))) (sharing (now (mem .entry)))) ⌝ }
 {
     let no = refusal::of_step(r, mem.len());
     if no != 0 {
-        return Reply::Refused(no);
+        return Replied {
+            reply: Reply::Refused(no),
+            stray: Stray::Clean,
+        };
     }
     let turned = turns::turn(r, mem, 1);
     let last = turned.last;
-    reply_of(last)
+    let stray = turned.stray;
+    Replied {
+        reply: reply_of(last),
+        stray,
+    }
 }
 
 // Steps up to and including the first that exchanges or stops, at most `budget`.
 pub fn turn(r: &mut [u64; 672], mem: &mut [u64], budget: u64) -> Turned
-    ensures { λ o. ⌜ turned (o .last) (o .steps) (stateOf (now (r .exit))) (sharing (now (mem .exit)))
+    ensures { λ o. ⌜ turned (o .last) (o .stray) (o .steps) (stateOf (now (r .exit))) (sharing (now (mem .exit)))
         ≡ turnCall (stateOf (now (r .entry))) (sharing (now (mem .entry))) budget ⌝ }
-    ensures { λ o. ⌜ lastNumbers (o .last) ≡ lastNumbers (turnCall (stateOf (now (r .entry))) (sharing (now (mem .entry))) budget .last) ⌝ }
+    ensures { λ o. ⌜ lastNumbers (o .last) ++ strayNumbers (o .stray)
+        ≡ turnNumbers (turnCall (stateOf (now (r .entry))) (sharing (now (mem .entry))) budget) ⌝ }
 {
     let no = refusal::of_run(r, mem.len(), budget);
     if no != 0 {
@@ -74,9 +92,10 @@ pub fn turn(r: &mut [u64; 672], mem: &mut [u64], budget: u64) -> Turned
 
 // At most `budget` steps, sooner where one stops.
 pub fn run(r: &mut [u64; 672], mem: &mut [u64], budget: u64) -> Ran
-    ensures { λ o. ⌜ ended (o .ending) (o .steps) (stateOf (now (r .exit))) (sharing (now (mem .exit)))
+    ensures { λ o. ⌜ ended (o .ending) (o .stray) (o .steps) (stateOf (now (r .exit))) (sharing (now (mem .exit)))
         ≡ runCall (stateOf (now (r .entry))) (sharing (now (mem .entry))) budget ⌝ }
-    ensures { λ o. ⌜ endingNumbers (o .ending) ≡ endingNumbers (runCall (stateOf (now (r .entry))) (sharing (now (mem .entry))) budget .ending) ⌝ }
+    ensures { λ o. ⌜ endingNumbers (o .ending) ++ strayNumbers (o .stray)
+        ≡ runNumbers (runCall (stateOf (now (r .entry))) (sharing (now (mem .entry))) budget) ⌝ }
 {
     let no = refusal::of_run(r, mem.len(), budget);
     if no != 0 {
@@ -92,10 +111,11 @@ pub fn run(r: &mut [u64; 672], mem: &mut [u64], budget: u64) -> Ran
 // Two processors, one after the other in 1,344 words, over one memory: a step for each byte of a schedule of 0s and 1s, up to and
 // including the first that exchanges or stops.
 pub fn pair_run(pair: &mut [u64; 1344], mem: &mut [u64], schedule: &[u8]) -> Paired
-    ensures { λ o. ⌜ pairEnded (o .last) (o .steps) (firstOf (now (pair .exit))) (secondOf (now (pair .exit))) (sharing (now (mem .exit)))
+    ensures { λ o. ⌜ pairEnded (o .last) (o .steps) (halfWith (firstOf (now (pair .exit))) (o .strays .first))
+        (halfWith (secondOf (now (pair .exit))) (o .strays .second)) (sharing (now (mem .exit)))
         ≡ pairCall (firstOf (now (pair .entry))) (secondOf (now (pair .entry))) (sharing (now (mem .entry))) (now (schedule .entry)) ⌝ }
-    ensures { λ o. ⌜ lastNumbers (o .last)
-        ≡ lastNumbers (pairCall (firstOf (now (pair .entry))) (secondOf (now (pair .entry))) (sharing (now (mem .entry))) (now (schedule .entry)) .last) ⌝ }
+    ensures { λ o. ⌜ lastNumbers (o .last) ++ (strayNumbers (o .strays .first) ++ strayNumbers (o .strays .second))
+        ≡ pairNumbers (pairCall (firstOf (now (pair .entry))) (secondOf (now (pair .entry))) (sharing (now (mem .entry))) (now (schedule .entry))) ⌝ }
 {
     let no = refusal::of_pair(pair, mem.len(), schedule);
     if no != 0 {

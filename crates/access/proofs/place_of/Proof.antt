@@ -1,5 +1,5 @@
 use native.Mathlib.Omega.{arith}
-use borrow.Author.Tests.{le-ltb, lt-ltb, lt-leb, le-leb}
+use borrow.Author.Tests.{lt-leb, le-leb}
 use Rattle.machine.specs.Memory.{placeOf}
 use Rattle.machine.specs.Layout.{frameOf}
 use borrow.Author.Needs.{needs}
@@ -20,21 +20,19 @@ add-sum c = record { fits = omega (arith, c .before .word-at .ensures, c .before
 
 returns : tie.Need-returns
 unfolding placeOf frameOf
-returns c = rw (← c .before .before .word-at .ensures, lt-ltb _ _ (c .if1 .taken))
+returns c = rw (← c .before .before .word-at .ensures, c .if1 .taken)
 
 returns-2 : tie.Need-returns-2
 unfolding placeOf frameOf
-returns-2 c = rw (← c .before .before .before .word-at .ensures, le-ltb _ _ (c .before .if1 .left), le-leb _ _ (c .if2 .taken))
+returns-2 c = rw (← c .before .before .before .word-at .ensures, c .before .if1 .left, c .if2 .taken)
 
 returns-3 : tie.Need-returns-3
 unfolding placeOf frameOf
-returns-3 c =
-    rw (← c .before .before .before .before .word-at .ensures, le-ltb _ _ (c .before .before .if1 .left), lt-leb _ _ (c .before .if2 .left), le-leb _ _ (c .if3 .taken))
+returns-3 c = rw (← c .before .before .before .before .word-at .ensures, c .before .before .if1 .left, c .before .if2 .left, le-leb _ _ (c .if3 .taken))
 
 returns-4 : tie.Need-returns-4
 unfolding placeOf frameOf
-returns-4 c =
-    rw (← c .before .before .before .before .word-at .ensures, le-ltb _ _ (c .before .before .if1 .left), lt-leb _ _ (c .before .if2 .left), lt-leb _ _ (c .if3 .left))
+returns-4 c = rw (← c .before .before .before .before .word-at .ensures, c .before .before .if1 .left, c .before .if2 .left, lt-leb _ _ (c .if3 .left))
 
 pub place-of-spec : {M : Type 1} → statement M
 place-of-spec =

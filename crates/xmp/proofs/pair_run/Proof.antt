@@ -1,7 +1,7 @@
 use borrow.Author.Tests.{ne-eqb}
 use mathlib.Core.Path.{refl, sym, _∙_}
-use Rattle.machine.specs.Run.{PairEnded}
-use Rattle.machine.specs.Call.{lastNumbers, pairCall}
+use Rattle.machine.specs.Call.{pairCall}
+use Rattle.xmp.specs.Reply.{pairNumbers}
 use Rattle.xmp.proofs.Allowed.{told, pair-allowed}
 use borrow.Author.Needs.{needs}
 use Rattle.xmp.proofs.pair_run.Statement.{statement}
@@ -21,7 +21,7 @@ unfolding pairCall
 returns-2 c =
     let if1 = c .before .before .before .before .before .if1 in
     let of-pair = c .before .before .before .before .before .before .of-pair in
-    rw (← of-pair .ensures, if1 .left) (told (λ (t : PairEnded). lastNumbers (t .last)) _ _ (c .before .before .take-schedule .ensures))
+    rw (← of-pair .ensures, if1 .left) (told pairNumbers _ _ (c .before .before .take-schedule .ensures))
 
 pub pair-run-spec : {M : Type 1} → statement M
 pair-run-spec = tie.close (tie.spec (λ c κs. search needs) returns take-schedule-requires (λ c. search needs) returns-2)

@@ -1,7 +1,8 @@
 use borrow.Author.Tests.{ne-eqb}
 use mathlib.Core.Path.{refl, sym, _∙_}
 use native.Mathlib.Omega.{arith}
-use Rattle.machine.specs.Call.{Replied, replyNumbers, stepCall}
+use Rattle.machine.specs.Call.{stepCall}
+use Rattle.xmp.specs.Reply.{stepNumbers}
 use Rattle.xmp.proofs.Allowed.{told, step-allowed, stepped}
 use borrow.Author.Needs.{needs}
 use Rattle.xmp.proofs.step.Statement.{statement}
@@ -22,7 +23,7 @@ returns-2 c =
     let turn = c .before .before .before .turn in
     let if1 = c .before .before .before .before .before .before .if1 in
     let of-step = c .before .before .before .before .before .before .before .of-step in
-    rw (← of-step .ensures, if1 .left) (told (λ (t : Replied). replyNumbers (t .reply)) _ _ (rw (c .reply-of .ensures) (stepped _ _ _ _ _ _ (turn .ensures))))
+    rw (← of-step .ensures, if1 .left) (told stepNumbers _ _ (rw (c .reply-of .ensures) (stepped _ _ _ _ _ _ _ (turn .ensures))))
 
 pub step-spec : {M : Type 1} → statement M
 step-spec =

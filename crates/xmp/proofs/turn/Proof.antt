@@ -1,7 +1,7 @@
 use borrow.Author.Tests.{ne-eqb}
 use mathlib.Core.Path.{refl, sym, _∙_}
-use Rattle.machine.specs.Run.{Turned}
-use Rattle.machine.specs.Call.{lastNumbers, turnCall}
+use Rattle.machine.specs.Call.{turnCall}
+use Rattle.xmp.specs.Reply.{turnNumbers}
 use Rattle.xmp.proofs.Allowed.{told, run-allowed}
 use borrow.Author.Needs.{needs}
 use Rattle.xmp.proofs.turn.Statement.{statement}
@@ -21,7 +21,7 @@ unfolding turnCall
 returns-2 c =
     let if1 = c .before .before .before .before .before .if1 in
     let of-run = c .before .before .before .before .before .before .of-run in
-    rw (← of-run .ensures, if1 .left) (told (λ (t : Turned). lastNumbers (t .last)) _ _ (c .before .before .turn .ensures))
+    rw (← of-run .ensures, if1 .left) (told turnNumbers _ _ (c .before .before .turn .ensures))
 
 pub turn-spec : {M : Type 1} → statement M
 turn-spec = tie.close (tie.spec (λ c κs. search needs) returns turn-requires (λ c. search needs) returns-2)

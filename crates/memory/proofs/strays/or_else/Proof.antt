@@ -1,6 +1,6 @@
 use borrow.Author.Needs.{needs}
-use Rattle.turns.proofs.or_else.Statement.{statement}
-use Rattle.turns.proofs.or_else.Tie as tie
+use Rattle.memory.proofs.strays.or_else.Statement.{statement}
+use Rattle.memory.proofs.strays.or_else.Tie as tie
 
 returns-2 : tie.Need-returns-2
 returns-2 c =
