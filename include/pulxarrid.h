@@ -117,7 +117,7 @@ enum pulxarrid_outside {
     PULXARRID_INSIDE = 0,       /* no operand was outside; element 0 */
     PULXARRID_BELOW_BASE = 1,   /* below DBA times 32 */
     PULXARRID_OVER_LIMIT = 2,   /* at or over DLA times 32 */
-    PULXARRID_BEYOND_MEMORY = 3 /* at or over the number of words of memory */
+    PULXARRID_BEYOND_MEMORY = 3 /* at or past the end of memory */
 };
 
 /* Fills state with a processor loaded from a package: words 16 * package to
