@@ -42,21 +42,21 @@ static void start(State state, const uint64_t *memory, size_t words, uint64_t pa
 
 static uint64_t step(State state, uint64_t *memory, size_t words)
 {
-    uint64_t answer[2];
+    uint64_t answer[PULXARRID_ANSWER_NUMBERS];
     taken(pulxarrid_step(state, memory, words, answer));
     return answer[0] < 2;
 }
 
 static uint64_t run(State state, uint64_t *memory, size_t words, uint64_t budget)
 {
-    uint64_t answer[3];
+    uint64_t answer[PULXARRID_REPORT_NUMBERS];
     taken(pulxarrid_run(state, memory, words, budget, answer));
     return answer[2];
 }
 
 static uint64_t pair_run(Pair pair, uint64_t *memory, size_t words, const uint8_t *schedule, size_t length)
 {
-    uint64_t answer[3];
+    uint64_t answer[PULXARRID_PAIR_REPORT_NUMBERS];
     taken(pulxarrid_pair_run(pair, memory, words, schedule, length, answer));
     return answer[2];
 }

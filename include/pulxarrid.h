@@ -54,6 +54,12 @@ enum pulxarrid_place {
     PULXARRID_V = 160         /* V0 to V7, 64 elements each */
 };
 
+/* How many numbers a step, a turn or a run, and a pair run write.
+ * Version 0.1 (2 to pkg-config) wrote fewer: 2, 3 and 3. */
+#define PULXARRID_ANSWER_NUMBERS 4
+#define PULXARRID_REPORT_NUMBERS 5
+#define PULXARRID_PAIR_REPORT_NUMBERS 7
+
 /* Limits of what a call accepts. */
 #define PULXARRID_MEMORY_LEAST 4096
 #define PULXARRID_MEMORY_MOST 4194304
@@ -102,39 +108,56 @@ enum pulxarrid_flag {
     PULXARRID_OPERAND_RANGE = 8
 };
 
+/* Why an operand was outside of the data field: the first of these tests that
+ * holds of its word, in this order. The element is its number among the operands
+ * of the instruction, counted from 0: 0 for 10h to 13h, up to 126 for 034 to 037,
+ * up to 63 for 176 and 177. A step tells of its first operand outside, in either
+ * mode and whether IOR is set or not. A parcel outside is no operand. */
+enum pulxarrid_outside {
+    PULXARRID_INSIDE = 0,       /* no operand was outside; element 0 */
+    PULXARRID_BELOW_BASE = 1,   /* below DBA times 32 */
+    PULXARRID_OVER_LIMIT = 2,   /* at or over DLA times 32 */
+    PULXARRID_BEYOND_MEMORY = 3 /* at or past the end of memory */
+};
+
 /* Fills state with a processor loaded from a package: words 16 * package to
  * 16 * package + 15 of memory. B, T, V and VM are 0. */
 uint64_t pulxarrid_start(uint64_t state[PULXARRID_STATE_WORDS],
                          const uint64_t *memory, size_t words,
                          uint64_t package, uint64_t processor);
 
-/* Takes one step. answer: its kind and its value. */
+/* Takes one step. answer: its kind, its value, outside and element. */
 uint64_t pulxarrid_step(uint64_t state[PULXARRID_STATE_WORDS],
                         uint64_t *memory, size_t words,
-                        uint64_t answer[2]);
+                        uint64_t answer[PULXARRID_ANSWER_NUMBERS]);
 
 /* Takes steps up to and including the first that does not answer stepped, at
- * most budget. report: the kind of the last answer, its value, and the number
- * of steps that stepped or exchanged. */
+ * most budget. report: the kind of the last answer, its value, the number of
+ * steps that stepped or exchanged, and outside and element of the last step that
+ * had an operand outside. */
 uint64_t pulxarrid_turn(uint64_t state[PULXARRID_STATE_WORDS],
                         uint64_t *memory, size_t words,
-                        uint64_t budget, uint64_t report[3]);
+                        uint64_t budget,
+                        uint64_t report[PULXARRID_REPORT_NUMBERS]);
 
 /* Takes steps until budget is spent or one answers not held or monitor fetch.
- * report: the kind of the ending, its value, and the number of steps that
- * stepped or exchanged. */
+ * report: the kind of the ending, its value, the number of steps that stepped or
+ * exchanged, and outside and element of the last step that had an operand
+ * outside. */
 uint64_t pulxarrid_run(uint64_t state[PULXARRID_STATE_WORDS],
                        uint64_t *memory, size_t words,
-                       uint64_t budget, uint64_t report[3]);
+                       uint64_t budget,
+                       uint64_t report[PULXARRID_REPORT_NUMBERS]);
 
 /* Takes a step for each byte of schedule, 0 for the first processor and 1 for
  * the second, up to and including the first that does not answer stepped.
- * report: the kind of the last answer, its value, and the number of steps that
- * stepped or exchanged. */
+ * report: the kind of the last answer, its value, the number of steps that
+ * stepped or exchanged, and outside and element of the first processor's last
+ * step that had an operand outside, then those of the second's. */
 uint64_t pulxarrid_pair_run(uint64_t pair[PULXARRID_PAIR_WORDS],
                             uint64_t *memory, size_t words,
                             const uint8_t *schedule, size_t turns,
-                            uint64_t report[3]);
+                            uint64_t report[PULXARRID_PAIR_REPORT_NUMBERS]);
 
 /* Assembles a text of CAL, each line of it ended by a newline, into at most
  * room parcels. report: how many were written or, refused with 10, the first

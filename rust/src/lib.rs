@@ -45,21 +45,21 @@ extern "C" {
         state: &mut [u64; STATE_WORDS],
         memory: *mut u64,
         words: usize,
-        answer: &mut [u64; 2],
+        answer: &mut [u64; 4],
     ) -> u64;
     fn pulxarrid_turn(
         state: &mut [u64; STATE_WORDS],
         memory: *mut u64,
         words: usize,
         budget: u64,
-        report: &mut [u64; 3],
+        report: &mut [u64; 5],
     ) -> u64;
     fn pulxarrid_run(
         state: &mut [u64; STATE_WORDS],
         memory: *mut u64,
         words: usize,
         budget: u64,
-        report: &mut [u64; 3],
+        report: &mut [u64; 5],
     ) -> u64;
     fn pulxarrid_pair_run(
         pair: &mut Pair,
@@ -67,7 +67,7 @@ extern "C" {
         words: usize,
         schedule: *const u8,
         turns: usize,
-        report: &mut [u64; 3],
+        report: &mut [u64; 7],
     ) -> u64;
     fn pulxarrid_assemble(
         text: *const u8,
@@ -254,12 +254,45 @@ impl Answer {
     }
 }
 
-/// The last answer of a turn, if it took a step, and the steps that stepped or
-/// exchanged.
+/// Why an operand was outside of the data field: the first of these tests that
+/// holds of its word, in this order. The number is the element: that of the
+/// operand among those of its instruction, counted from 0.
+#[derive(Clone, Copy, PartialEq, Eq, Debug)]
+pub enum Outside {
+    BelowBase(u8),
+    /// At or over the limit.
+    OverLimit(u8),
+    BeyondMemory(u8),
+}
+
+impl Outside {
+    fn new(cause: u64, element: u64) -> Option<Outside> {
+        let element = element as u8;
+        match cause {
+            0 => None,
+            1 => Some(Outside::BelowBase(element)),
+            2 => Some(Outside::OverLimit(element)),
+            3 => Some(Outside::BeyondMemory(element)),
+            _ => unreachable!("there are three causes"),
+        }
+    }
+}
+
+/// The answer of a step, and its first operand outside, in either mode and
+/// whether it exchanged for it or not.
+#[derive(Clone, Copy, PartialEq, Eq, Debug)]
+pub struct Stepped {
+    pub answer: Answer,
+    pub outside: Option<Outside>,
+}
+
+/// The last answer of a turn, if it took a step, the steps that stepped or
+/// exchanged, and what the last step with an operand outside said of it.
 #[derive(Clone, Copy, PartialEq, Eq, Debug)]
 pub struct Turned {
     pub last: Option<Answer>,
     pub steps: u64,
+    pub outside: Option<Outside>,
 }
 
 /// How a run ended.
@@ -270,19 +303,23 @@ pub enum Ending {
     MonitorFetch(u32),
 }
 
-/// How a run ended, and the steps that stepped or exchanged.
+/// How a run ended, the steps that stepped or exchanged, and what the last step
+/// with an operand outside said of it.
 #[derive(Clone, Copy, PartialEq, Eq, Debug)]
 pub struct Ran {
     pub ending: Ending,
     pub steps: u64,
+    pub outside: Option<Outside>,
 }
 
-/// The last answer of a pair run, if it took a step, and the steps that
-/// stepped or exchanged.
+/// The last answer of a pair run, if it took a step, the steps that stepped or
+/// exchanged, and what the last step of each processor with an operand outside
+/// said of it.
 #[derive(Clone, Copy, PartialEq, Eq, Debug)]
 pub struct PairRan {
     pub last: Option<Answer>,
     pub steps: u64,
+    pub outside: [Option<Outside>; 2],
 }
 
 /// A processor loaded from a package.
@@ -302,8 +339,8 @@ pub fn start(memory: &[u64], package: u64, processor: u64) -> Result<State, Refu
 }
 
 /// One step.
-pub fn step(state: &mut State, memory: &mut [u64]) -> Result<Answer, Refused> {
-    let mut answer = [0; 2];
+pub fn step(state: &mut State, memory: &mut [u64]) -> Result<Stepped, Refused> {
+    let mut answer = [0; 4];
     let number = unsafe {
         pulxarrid_step(
             &mut state.words,
@@ -313,12 +350,16 @@ pub fn step(state: &mut State, memory: &mut [u64]) -> Result<Answer, Refused> {
         )
     };
     Refused::check(number)?;
-    Ok(Answer::new(answer[0], answer[1]).expect("a step answers"))
+    let [kind, value, cause, element] = answer;
+    Ok(Stepped {
+        answer: Answer::new(kind, value).expect("a step answers"),
+        outside: Outside::new(cause, element),
+    })
 }
 
 /// A turn or a run: steps on one processor, up to a budget.
 type Budgeted =
-    unsafe extern "C" fn(&mut [u64; STATE_WORDS], *mut u64, usize, u64, &mut [u64; 3]) -> u64;
+    unsafe extern "C" fn(&mut [u64; STATE_WORDS], *mut u64, usize, u64, &mut [u64; 5]) -> u64;
 
 /// What one of the two reports.
 fn within(
@@ -326,8 +367,8 @@ fn within(
     state: &mut State,
     memory: &mut [u64],
     budget: u64,
-) -> Result<[u64; 3], Refused> {
-    let mut report = [0; 3];
+) -> Result<[u64; 5], Refused> {
+    let mut report = [0; 5];
     let words = &mut state.words;
     let number = unsafe {
         call(
@@ -345,27 +386,34 @@ fn within(
 /// Steps up to and including the first that exchanges or stops, at most
 /// `budget`.
 pub fn turn(state: &mut State, memory: &mut [u64], budget: u64) -> Result<Turned, Refused> {
-    let [kind, value, steps] = within(pulxarrid_turn, state, memory, budget)?;
-    let last = Answer::new(kind, value);
-    Ok(Turned { last, steps })
+    let [kind, value, steps, cause, element] = within(pulxarrid_turn, state, memory, budget)?;
+    Ok(Turned {
+        last: Answer::new(kind, value),
+        steps,
+        outside: Outside::new(cause, element),
+    })
 }
 
 /// Steps until the budget is spent or one stops.
 pub fn run(state: &mut State, memory: &mut [u64], budget: u64) -> Result<Ran, Refused> {
-    let [kind, value, steps] = within(pulxarrid_run, state, memory, budget)?;
+    let [kind, value, steps, cause, element] = within(pulxarrid_run, state, memory, budget)?;
     let ending = match kind {
         0 => Ending::Budget,
         2 => Ending::NotHeld(value as u32),
         3 => Ending::MonitorFetch(value as u32),
         _ => unreachable!("a run ends in one of three ways"),
     };
-    Ok(Ran { ending, steps })
+    Ok(Ran {
+        ending,
+        steps,
+        outside: Outside::new(cause, element),
+    })
 }
 
 /// A step for each byte of the schedule, 0 for the first processor and 1 for
 /// the second, up to the first that does more than step.
 pub fn pair_run(pair: &mut Pair, memory: &mut [u64], schedule: &[u8]) -> Result<PairRan, Refused> {
-    let mut report = [0; 3];
+    let mut report = [0; 7];
     let number = unsafe {
         pulxarrid_pair_run(
             pair,
@@ -377,9 +425,12 @@ pub fn pair_run(pair: &mut Pair, memory: &mut [u64], schedule: &[u8]) -> Result<
         )
     };
     Refused::check(number)?;
-    let [kind, value, steps] = report;
-    let last = Answer::new(kind, value);
-    Ok(PairRan { last, steps })
+    let [kind, value, steps, x, x_element, y, y_element] = report;
+    Ok(PairRan {
+        last: Answer::new(kind, value),
+        steps,
+        outside: [Outside::new(x, x_element), Outside::new(y, y_element)],
+    })
 }
 
 /// The bytes of the longest line of CAL, its newline among them.

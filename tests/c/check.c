@@ -1,5 +1,5 @@
-/* Calls the library from C: places, answers, refusals, memories of every size;
- * texts assembled and parcels listed. */
+/* Calls the library from C: places, answers, operands outside, refusals, memories
+ * of every size; texts assembled and parcels listed. */
 #include "pulxarrid.h"
 
 #include <stdio.h>
@@ -24,6 +24,12 @@ static int is(uint64_t number, const uint64_t *got, uint64_t kind, uint64_t valu
     return number == 0 && got[0] == kind && got[1] == value;
 }
 
+/* Why an operand was outside, and its element. */
+static int tells(const uint64_t *got, uint64_t outside, uint64_t element)
+{
+    return got[0] == outside && got[1] == element;
+}
+
 static uint64_t memory[PULXARRID_MEMORY_LEAST];
 /* Two processors. A call for one of them is lent the first, so that a write past
  * its words is seen in the second. */
@@ -31,8 +37,9 @@ static uint64_t pair[PULXARRID_PAIR_WORDS];
 static uint64_t *const state = pair;
 static uint64_t *const other = pair + PULXARRID_STATE_WORDS;
 #define STATE_BYTES (PULXARRID_STATE_WORDS * sizeof(uint64_t))
-static uint64_t answer[2];
-static uint64_t report[3];
+static uint64_t answer[PULXARRID_ANSWER_NUMBERS];
+/* That of a pair run is the longest. */
+static uint64_t report[PULXARRID_PAIR_REPORT_NUMBERS];
 
 /* A package with fields for code and data, in words, and modes. */
 static void put_package(uint64_t *m, unsigned number, uint64_t code, uint64_t code_end,
@@ -45,6 +52,12 @@ static void put_package(uint64_t *m, unsigned number, uint64_t code, uint64_t co
     at[3] = xa << 40;
     at[4] = data / 32 << 29;
     at[5] = data_end / 32 << 29;
+}
+
+/* A word of four parcels. */
+static uint64_t word(uint64_t first, uint64_t second, uint64_t third, uint64_t fourth)
+{
+    return first << 48 | second << 32 | third << 16 | fourth;
 }
 
 /* The first example: two numbers are added and the sum is stored at 0x800. */
@@ -154,26 +167,58 @@ static uint64_t draw(void)
 static int turn_is_steps(uint64_t budget)
 {
     static uint64_t twin[PULXARRID_STATE_WORDS], twin_memory[PULXARRID_MEMORY_LEAST];
-    uint64_t kind = PULXARRID_NOTHING, value = 0, steps = 0, n;
+    uint64_t wanted[PULXARRID_REPORT_NUMBERS] = {PULXARRID_NOTHING}, n;
 
     memcpy(twin, state, sizeof twin);
     memcpy(twin_memory, memory, sizeof memory);
-    for (n = 0; n < budget && (n == 0 || kind == PULXARRID_STEPPED); n++) {
+    for (n = 0; n < budget && (n == 0 || wanted[0] == PULXARRID_STEPPED); n++) {
         if (pulxarrid_step(twin, twin_memory, 4096, answer))
             return 0;
-        kind = answer[0];
-        value = answer[1];
-        steps += kind == PULXARRID_STEPPED || kind == PULXARRID_EXCHANGED;
+        wanted[0] = answer[0];
+        wanted[1] = answer[1];
+        wanted[2] += answer[0] == PULXARRID_STEPPED || answer[0] == PULXARRID_EXCHANGED;
+        if (answer[2] != PULXARRID_INSIDE)
+            memcpy(wanted + 3, answer + 2, 2 * sizeof *answer);
     }
-    return is(pulxarrid_turn(state, memory, 4096, budget, report), report, kind, value) && report[2] == steps
+    return pulxarrid_turn(state, memory, 4096, budget, report) == 0 && memcmp(report, wanted, sizeof wanted) == 0
         && memcmp(twin, state, sizeof twin) == 0 && memcmp(twin_memory, memory, sizeof memory) == 0;
 }
 
-/* The sum again, in turns; then turns of any length from any words. */
+/* Turns of any length from any words, in fields of four kinds. */
+static void any_turns(void)
+{
+    unsigned seen[PULXARRID_NOTHING + 1] = {0}, causes[PULXARRID_BEYOND_MEMORY + 1] = {0}, good = 0, n, at;
+
+    drawn = 1;
+    for (n = 0; n < 3000; n++) {
+        for (at = 0; at < PULXARRID_MEMORY_LEAST; at++)
+            memory[at] = draw();
+        put_package(memory, 0, 0x400, 0x800, 0x800, 0xC00, 0, draw() % 256);
+        pulxarrid_start(state, memory, 4096, 0, n % 2);
+        state[PULXARRID_MM] = draw() % 2;
+        state[PULXARRID_IOR] = draw() % 2;
+        state[PULXARRID_DBA] = draw() % 2 ? 0x40 : 0x10000; /* half of all addresses wrap */
+        state[PULXARRID_DLA] = draw() % 2 ? 0x60 : 0x1FFFF; /* past the end of memory */
+        state[PULXARRID_P] = draw() % 0x1100;
+        for (at = PULXARRID_A; at < PULXARRID_A + 8; at++)
+            state[at] = draw() >> (40 + draw() % 24);
+        good += turn_is_steps(draw() % 8);
+        if (report[0] <= PULXARRID_NOTHING)
+            seen[report[0]]++;
+        if (report[3] <= PULXARRID_BEYOND_MEMORY)
+            causes[report[3]]++;
+    }
+    check(good == 3000, "turns are steps one by one");
+    check(seen[PULXARRID_STEPPED] > 20 && seen[PULXARRID_EXCHANGED] > 20 && seen[PULXARRID_NOT_HELD] > 20
+          && seen[PULXARRID_MONITOR_FETCH] > 20 && seen[PULXARRID_NOTHING] > 20, "of every kind");
+    check(causes[PULXARRID_INSIDE] > 20 && causes[PULXARRID_BELOW_BASE] > 20 && causes[PULXARRID_OVER_LIMIT] > 20
+          && causes[PULXARRID_BEYOND_MEMORY] > 20, "with every cause");
+}
+
+/* The sum again, in turns. */
 static void turn(void)
 {
     static uint64_t before[PULXARRID_MEMORY_LEAST], twin[PULXARRID_PAIR_WORDS];
-    unsigned seen[PULXARRID_NOTHING + 1] = {0}, good = 0, n, at;
 
     put_sum();
     pulxarrid_start(state, memory, 4096, 0, 0);
@@ -204,24 +249,6 @@ static void turn(void)
     memory[0x401] = UINT64_C(0x00000C0000050000); /* 006000 000005: J 5, at parcel 5 */
     pulxarrid_start(state, memory, 4096, 0, 0);
     check(turn_is_steps(4) && turn_is_steps(100000) && report[2] == 100000, "a turn that goes round");
-
-    drawn = 1;
-    for (n = 0; n < 3000; n++) {
-        for (at = 0; at < PULXARRID_MEMORY_LEAST; at++)
-            memory[at] = draw();
-        put_package(memory, 0, 0x400, 0x800, 0x800, 0xC00, 0, draw() % 256);
-        pulxarrid_start(state, memory, 4096, 0, n % 2);
-        state[PULXARRID_MM] = draw() % 2;
-        state[PULXARRID_P] = draw() % 0x1100;
-        for (at = PULXARRID_A; at < PULXARRID_A + 8; at++)
-            state[at] = draw() >> (40 + draw() % 24);
-        good += turn_is_steps(draw() % 8);
-        if (report[0] <= PULXARRID_NOTHING)
-            seen[report[0]]++;
-    }
-    check(good == 3000, "turns are steps one by one");
-    check(seen[PULXARRID_STEPPED] > 20 && seen[PULXARRID_EXCHANGED] > 20 && seen[PULXARRID_NOT_HELD] > 20
-          && seen[PULXARRID_MONITOR_FETCH] > 20 && seen[PULXARRID_NOTHING] > 20, "of every kind");
 }
 
 static void run(void)
@@ -271,10 +298,289 @@ static void pair_run(void)
     check(state[PULXARRID_A + 1] == 1, "before the next turn");
 }
 
+/* An instruction whose second parcel, if it has one, is 0; the data field, A0 to
+ * A2 and VL; what a step tells of it. */
+struct operand {
+    uint16_t code;
+    uint64_t dba, dla, a0, a1, a2, vl, outside, element;
+    const char *what;
+};
+
+/* The field is words 0800 to 0BFF if not said otherwise, memory ends at 1000. A
+ * limit of 1FFFF is word 3FFFE0. */
+static const struct operand scalars[] = {
+    {0022105, 0x40, 0x60, 0x400, 1, 0x400, 64, PULXARRID_INSIDE, 0, "no operand"},
+    {0102100, 0x40, 0x60, 0, 0, 0, 64, PULXARRID_INSIDE, 0, "the first word of the field"},
+    {0132100, 0x40, 0x60, 0, 0, 0x3FF, 64, PULXARRID_INSIDE, 0, "the last word of the field"},
+    {0102100, 0x40, 0x60, 0, 0, 0x400, 64, PULXARRID_OVER_LIMIT, 0, "word 0C00 read, by 10h"},
+    {0112100, 0x40, 0x60, 0, 0, 0x400, 64, PULXARRID_OVER_LIMIT, 0, "word 0C00 stored, by 11h"},
+    {0122100, 0x40, 0x60, 0, 0, 0x400, 64, PULXARRID_OVER_LIMIT, 0, "word 0C00 read, by 12h"},
+    {0132100, 0x40, 0x60, 0, 0, 0x400, 64, PULXARRID_OVER_LIMIT, 0, "word 0C00 stored, by 13h"},
+    /* 3FFFFF + 0800 = 2^22 + 07FF */
+    {0102100, 0x40, 0x60, 0, 0, 0x3FFFFF, 64, PULXARRID_BELOW_BASE, 0, "word 07FF"},
+    {0112100, 0x40, 0x60, 0, 0, 0xFFFFFF, 64, PULXARRID_BELOW_BASE, 0, "word 07FF, by an address of 24 bits"},
+    {0122100, 0x40, 0x60, 0, 0, 0x3FF800, 64, PULXARRID_BELOW_BASE, 0, "word 0"},
+    {0132100, 0x40, 0x60, 0, 0, 0x3FF7FF, 64, PULXARRID_OVER_LIMIT, 0, "word 3FFFFF, which is beyond the memory too"},
+    {0102100, 0x40, 0x1FFFF, 0, 0, 0x7FF, 64, PULXARRID_INSIDE, 0, "the last word of memory"},
+    {0102100, 0x40, 0x1FFFF, 0, 0, 0x800, 64, PULXARRID_BEYOND_MEMORY, 0, "word 1000"},
+    {0132100, 0x80, 0x1FFFF, 0, 0, 0, 64, PULXARRID_BEYOND_MEMORY, 0, "a field that begins where memory ends"},
+    {0112100, 0x40, 0x80, 0, 0, 0x800, 64, PULXARRID_OVER_LIMIT, 0, "a field that ends where memory ends"},
+    {0122100, 0, 0x1FFFF, 0, 0, 0x3FFFDF, 64, PULXARRID_BEYOND_MEMORY, 0, "word 3FFFDF, by base 0"},
+    {0122100, 0, 0x1FFFF, 0, 0, 0x3FFFE0, 64, PULXARRID_OVER_LIMIT, 0, "word 3FFFE0, by base 0"},
+    {0112100, 0x60, 0x40, 0, 0, 0, 64, PULXARRID_OVER_LIMIT, 0, "word 0C00, with limit 0800 under the base"},
+    /* 3FFF00 + 0C00 = 2^22 + 0B00 */
+    {0112100, 0x60, 0x40, 0, 0, 0x3FFF00, 64, PULXARRID_BELOW_BASE, 0, "word 0B00, below that base and over that limit"},
+    /* 3FFFFF + 3FFFE0 = 2^22 + 3FFFDF */
+    {0132100, 0x1FFFF, 0, 0, 0, 0x3FFFFF, 64, PULXARRID_BELOW_BASE, 0, "a word of which all three hold"}
+};
+
+/* A2 counts; element e is at A0 + e. */
+static const struct operand blocks[] = {
+    {0034200, 0x40, 0x60, 0x382, 0, 127, 64, PULXARRID_OVER_LIMIT, 126, "127 words to 0C00, by 034"},
+    {0035200, 0x40, 0x60, 0x382, 0, 127, 64, PULXARRID_OVER_LIMIT, 126, "127 words to 0C00, by 035"},
+    {0036200, 0x40, 0x60, 0x382, 0, 127, 64, PULXARRID_OVER_LIMIT, 126, "127 words to 0C00, by 036"},
+    {0037200, 0x40, 0x60, 0x382, 0, 127, 64, PULXARRID_OVER_LIMIT, 126, "127 words to 0C00, by 037"},
+    {0035200, 0x40, 0x60, 0x382, 0, 126, 64, PULXARRID_INSIDE, 0, "126 words to 0BFF"},
+    {0034200, 0x40, 0x60, 0x382, 0, 255, 64, PULXARRID_OVER_LIMIT, 126, "a count of 255, which is 127"},
+    {0037200, 0x40, 0x60, 0x400, 0, 128, 64, PULXARRID_INSIDE, 0, "a count of 128, which is none"},
+    {0034276, 0x40, 0x60, 0x3FE, 0, 4, 64, PULXARRID_OVER_LIMIT, 2, "B76, B77, then B00 from 0C00"},
+    {0037275, 0x40, 0x60, 0x3FF, 0, 4, 64, PULXARRID_OVER_LIMIT, 1, "T75, then T76 to 0C00"},
+    {0036200, 0x40, 0x60, 0xFFFFFF, 0, 64, 64, PULXARRID_BELOW_BASE, 0, "07FF, then words inside"},
+    {0035200, 0x40, 0x1FFFF, 0x7F0, 0, 127, 64, PULXARRID_BEYOND_MEMORY, 16, "0FF0 to past the end of memory"}
+};
+
+/* Element e is at A0 + e * A1; with k = 0, at A0 + e. */
+static const struct operand vectors[] = {
+    {0177021, 0x40, 0x60, 0x3F4, 1, 0, 64, PULXARRID_OVER_LIMIT, 12, "a store that passes the limit at 0BF4 + 12"},
+    {0176201, 0x40, 0x60, 0x3F4, 1, 0, 13, PULXARRID_OVER_LIMIT, 12, "13 elements read from there"},
+    {0177021, 0x40, 0x60, 0x3F4, 1, 0, 12, PULXARRID_INSIDE, 0, "only 12"},
+    {0177020, 0x40, 0x60, 0x3C1, 9, 0, 64, PULXARRID_OVER_LIMIT, 63, "the last element, at 0BC1 + 63"},
+    {0176200, 0x40, 0x60, 0x3C0, 9, 0, 64, PULXARRID_INSIDE, 0, "all 64 elements to 0BFF"},
+    /* 5 - 6 = -1, which is 3FFFFF in 22 bits */
+    {0177021, 0x40, 0x60, 5, 0xFFFFFF, 0, 64, PULXARRID_BELOW_BASE, 6, "a store that goes down from 0805 to 07FF"},
+    {0176201, 0x40, 0x60, 0, 0x3FFFFF, 0, 2, PULXARRID_BELOW_BASE, 1, "0800, then 07FF"},
+    {0176201, 0x40, 0x60, 0, 0x3FFFFF, 0, 1, PULXARRID_INSIDE, 0, "0800 alone"},
+    {0177021, 0x40, 0x1FFFF, 0x7C0, 2, 0, 64, PULXARRID_BEYOND_MEMORY, 32, "a store beyond memory at 0FC0 + 2 * 32"},
+    /* 2 * 200000 = 2^22 */
+    {0176201, 0x40, 0x1FFFF, 0x7FF, 0x200000, 0, 3, PULXARRID_BEYOND_MEMORY, 1, "0FFF, then 200FFF, then 0FFF again"},
+    /* 0400 - 0401 = -1 */
+    {0177021, 0x40, 0x60, 0x400, 0xFFFBFF, 0, 64, PULXARRID_OVER_LIMIT, 0, "0C00, then 07FF"},
+    /* 3FFFFF + 0401 = 2^22 + 0400 */
+    {0176201, 0x40, 0x60, 0x3FFFFF, 0x401, 0, 64, PULXARRID_BELOW_BASE, 0, "07FF, then 0C00"}
+};
+
+/* One step, in each mode with IOR set and clear: it exchanges in one of the four
+ * alone, and tells the same in all. */
+static void operand(const struct operand *o)
+{
+    unsigned n;
+
+    for (n = 0; n < 4; n++) {
+        uint64_t mm = n / 2, ior = n % 2, exchanges = o->outside != PULXARRID_INSIDE && !mm && ior;
+        put_sum();
+        memory[0x400] = word(o->code, 0, 0, 0);
+        pulxarrid_start(state, memory, 4096, 0, 0);
+        state[PULXARRID_MM] = mm;
+        state[PULXARRID_IOR] = ior;
+        state[PULXARRID_DBA] = o->dba;
+        state[PULXARRID_DLA] = o->dla;
+        state[PULXARRID_A] = o->a0;
+        state[PULXARRID_A + 1] = o->a1;
+        state[PULXARRID_A + 2] = o->a2;
+        state[PULXARRID_VL] = o->vl;
+        memset(answer, 0xAA, sizeof answer);
+        check(is(pulxarrid_step(state, memory, 4096, answer), answer,
+                 exchanges ? PULXARRID_EXCHANGED : PULXARRID_STEPPED, exchanges ? PULXARRID_OPERAND_RANGE : 0)
+              && tells(answer + 2, o->outside, o->element), o->what);
+    }
+}
+
+static void operands(void)
+{
+    unsigned n;
+
+    for (n = 0; n < sizeof scalars / sizeof *scalars; n++)
+        operand(scalars + n);
+    for (n = 0; n < sizeof blocks / sizeof *blocks; n++)
+        operand(blocks + n);
+    for (n = 0; n < sizeof vectors / sizeof *vectors; n++)
+        operand(vectors + n);
+}
+
+/* A step at a parcel of a program whose A2 is outside, in either mode. */
+static int tells_none(uint64_t p, uint64_t mm, uint64_t kind, uint64_t value)
+{
+    put_sum();
+    memory[0x400] = word(0004000, 0000001, 0, 0); /* an exit; not held */
+    memory[0x7FF] = word(0, 0, 0, 0102100);       /* A1 ?,A2: its second parcel is outside */
+    pulxarrid_start(state, memory, 4096, 0, 0);
+    state[PULXARRID_P] = p;
+    state[PULXARRID_MM] = mm;
+    state[PULXARRID_IOR] = 1;
+    state[PULXARRID_A + 2] = 0x400;
+    memset(answer, 0xAA, sizeof answer);
+    return is(pulxarrid_step(state, memory, 4096, answer), answer, kind, value) && tells(answer + 2, PULXARRID_INSIDE, 0);
+}
+
+/* A parcel outside is no operand, nor are the words of an exchange. */
+static void no_operand(void)
+{
+    check(tells_none(0x1000, 0, PULXARRID_EXCHANGED, PULXARRID_PROGRAM_RANGE), "program range tells no cause");
+    check(tells_none(0x1000, 1, PULXARRID_MONITOR_FETCH, 0x1000), "nor a monitor fetch");
+    check(tells_none(0xFFF, 0, PULXARRID_EXCHANGED, PULXARRID_PROGRAM_RANGE), "nor program range at a second parcel");
+    check(tells_none(0xFFF, 1, PULXARRID_MONITOR_FETCH, 0xFFF), "nor a monitor fetch at a second parcel");
+    check(tells_none(0, 0, PULXARRID_EXCHANGED, PULXARRID_NORMAL_EXIT), "nor an exit");
+    check(tells_none(0, 1, PULXARRID_EXCHANGED, 0), "nor an exit in monitor mode");
+    check(tells_none(1, 0, PULXARRID_NOT_HELD, 1), "nor a code that is not held");
+}
+
+/* A store over the limit at element 12, two clean steps, a read below the base,
+ * a clean step; then a code that is not held. */
+static void put_outside(uint64_t xa)
+{
+    memset(memory, 0, sizeof memory);
+    put_package(memory, 0, 0x400, 0x800, 0x800, 0xC00, 0, xa);
+    memory[0] |= 0x3F4;    /* A0: 0BF4 + 12 is the limit */
+    memory[1] |= 1;        /* A1 */
+    memory[2] |= 0x3FFFFF; /* A2: word 07FF */
+    memory[0x400] = word(0177021, 0022105, 0001000, 0102300);
+    memory[0x401] = word(0000000, 0001000, 0000001, 0);
+    pulxarrid_start(state, memory, 4096, 0, 0);
+}
+
+/* A turn and a run tell of their last step with an operand outside: without IOR,
+ * and in monitor mode with it. */
+static void last_outside(void)
+{
+    static const struct { uint64_t budget, steps, outside, element; } runs[] = {
+        {0, 0, PULXARRID_INSIDE, 0}, {1, 1, PULXARRID_OVER_LIMIT, 12}, {2, 2, PULXARRID_OVER_LIMIT, 12},
+        {3, 3, PULXARRID_OVER_LIMIT, 12}, {4, 4, PULXARRID_BELOW_BASE, 0}, {5, 5, PULXARRID_BELOW_BASE, 0},
+        {100, 5, PULXARRID_BELOW_BASE, 0}
+    };
+    unsigned n, mm;
+
+    for (n = 0; n < 2 * (sizeof runs / sizeof *runs); n++) {
+        uint64_t budget = runs[n / 2].budget, steps = runs[n / 2].steps, stops = budget > steps;
+        uint64_t stepped = budget ? PULXARRID_STEPPED : PULXARRID_NOTHING;
+        mm = n % 2;
+        put_outside(0);
+        state[PULXARRID_MM] = state[PULXARRID_IOR] = mm;
+        memset(report, 0xAA, sizeof report);
+        check(is(pulxarrid_run(state, memory, 4096, budget, report), report,
+                 stops ? PULXARRID_NOT_HELD : PULXARRID_BUDGET_SPENT, stops ? 6 : 0)
+              && report[2] == steps && tells(report + 3, runs[n / 2].outside, runs[n / 2].element), "the last of a run");
+        put_outside(0);
+        state[PULXARRID_MM] = state[PULXARRID_IOR] = mm;
+        memset(report, 0xAA, sizeof report);
+        check(is(pulxarrid_turn(state, memory, 4096, budget, report), report, stops ? PULXARRID_NOT_HELD : stepped, stops ? 6 : 0)
+              && report[2] == steps && tells(report + 3, runs[n / 2].outside, runs[n / 2].element), "the last of a turn");
+    }
+    check(is(pulxarrid_run(state, memory, 4096, 100, report), report, PULXARRID_NOT_HELD, 6) && report[2] == 0
+          && tells(report + 3, PULXARRID_INSIDE, 0), "a run tells nothing of the call before");
+    check(is(pulxarrid_turn(state, memory, 4096, 100, report), report, PULXARRID_NOT_HELD, 6) && report[2] == 0
+          && tells(report + 3, PULXARRID_INSIDE, 0), "nor does a turn");
+}
+
+/* What a run tells stays over exchanges, whether for operand range or not. The
+ * other package has a clean step and a code that is not held. */
+static void outside_and_exchanges(void)
+{
+    put_outside(1);
+    state[PULXARRID_IOR] = 1;
+    check(is(pulxarrid_turn(state, memory, 4096, 100, report), report, PULXARRID_EXCHANGED, PULXARRID_OPERAND_RANGE)
+          && report[2] == 1 && tells(report + 3, PULXARRID_OVER_LIMIT, 12), "a turn that ends with operand range");
+    put_outside(1);
+    put_package(memory, 1, 0x440, 0x460, 0x800, 0xC00, 0, 0);
+    memory[0x440] = word(0022105, 0000001, 0, 0);
+    state[PULXARRID_IOR] = 1;
+    check(is(pulxarrid_run(state, memory, 4096, 100, report), report, PULXARRID_NOT_HELD, 1) && report[2] == 2
+          && tells(report + 3, PULXARRID_OVER_LIMIT, 12), "a run after operand range and a clean step");
+    check(memory[16 + 3] >> 24 == 0x18008, "whose package has the flag"); /* XA 1, VL 64, flag 8 */
+    put_outside(1);
+    put_package(memory, 1, 0x440, 0x460, 0x800, 0xC00, 0, 0);
+    memory[0x440] = word(0022105, 0000001, 0, 0);
+    memory[0x400] = word(0177021, 0004000, 0, 0);
+    check(is(pulxarrid_run(state, memory, 4096, 100, report), report, PULXARRID_NOT_HELD, 1) && report[2] == 3
+          && tells(report + 3, PULXARRID_OVER_LIMIT, 12), "a run after an exit and a clean step");
+}
+
+/* The first as above. The second has a clean step, a read below the base, a clean
+ * step, a store beyond memory at element 32; then a code that is not held. */
+static void put_two(void)
+{
+    put_outside(0);
+    memory[0x400] = word(0177021, 0001000, 0001000, 0001000);
+    put_package(memory, 2, 0x440, 0x460, 0x800, UINT64_C(0x1FFFF) * 32, 0, 3);
+    memory[32] |= 0x7C0;    /* A0: 0FC0 + 2 * 32 is the end of memory */
+    memory[33] |= 2;        /* A1 */
+    memory[34] |= 0x3FFFFF; /* A2: word 07FF */
+    memory[0x440] = word(0022403, 0102300, 0000000, 0001000);
+    memory[0x441] = word(0177021, 0000001, 0, 0);
+    pulxarrid_start(other, memory, 4096, 2, 1);
+}
+
+/* A pair run tells of the last step with an operand outside for each of the two. */
+static void outside_of_two(void)
+{
+    static const uint8_t turns[] = {0, 1, 1, 0, 1, 1, 1};
+    static const uint64_t wanted[][PULXARRID_PAIR_REPORT_NUMBERS] = {
+        {PULXARRID_NOTHING, 0, 0, PULXARRID_INSIDE, 0, PULXARRID_INSIDE, 0},
+        {PULXARRID_STEPPED, 0, 1, PULXARRID_OVER_LIMIT, 12, PULXARRID_INSIDE, 0},
+        {PULXARRID_STEPPED, 0, 2, PULXARRID_OVER_LIMIT, 12, PULXARRID_INSIDE, 0},
+        {PULXARRID_STEPPED, 0, 3, PULXARRID_OVER_LIMIT, 12, PULXARRID_BELOW_BASE, 0},
+        {PULXARRID_STEPPED, 0, 4, PULXARRID_OVER_LIMIT, 12, PULXARRID_BELOW_BASE, 0},
+        {PULXARRID_STEPPED, 0, 5, PULXARRID_OVER_LIMIT, 12, PULXARRID_BELOW_BASE, 0},
+        {PULXARRID_STEPPED, 0, 6, PULXARRID_OVER_LIMIT, 12, PULXARRID_BEYOND_MEMORY, 32},
+        {PULXARRID_NOT_HELD, 5, 6, PULXARRID_OVER_LIMIT, 12, PULXARRID_BEYOND_MEMORY, 32}
+    };
+    static const uint64_t exchanged[PULXARRID_PAIR_REPORT_NUMBERS] = {
+        PULXARRID_EXCHANGED, PULXARRID_OPERAND_RANGE, 2, PULXARRID_INSIDE, 0, PULXARRID_BELOW_BASE, 0
+    };
+    unsigned n;
+
+    for (n = 0; n < sizeof wanted / sizeof *wanted; n++) {
+        put_two();
+        memset(report, 0xAA, sizeof report);
+        check(pulxarrid_pair_run(pair, memory, 4096, turns, n, report) == 0
+              && memcmp(report, wanted[n], sizeof report) == 0, "the last of each of two");
+    }
+    put_two();
+    other[PULXARRID_IOR] = 1;
+    memset(report, 0xAA, sizeof report);
+    check(pulxarrid_pair_run(pair, memory, 4096, turns + 1, 6, report) == 0
+          && memcmp(report, exchanged, sizeof report) == 0, "a pair run that ends with operand range of the second");
+}
+
+/* Whether a call wrote just so many numbers into room that was all AA. */
+static int wrote(uint64_t number, uint64_t *room, unsigned count)
+{
+    unsigned n, good = number == 0;
+
+    for (n = 0; n < PULXARRID_PAIR_REPORT_NUMBERS + 1; n++)
+        good = good && (room[n] == UINT64_C(0xAAAAAAAAAAAAAAAA)) == (n >= count);
+    memset(room, 0xAA, (PULXARRID_PAIR_REPORT_NUMBERS + 1) * sizeof *room);
+    return (int)good;
+}
+
+static void numbers_written(void)
+{
+    static const uint8_t turns[] = {0, 1};
+    uint64_t room[PULXARRID_PAIR_REPORT_NUMBERS + 1];
+
+    memset(room, 0xAA, sizeof room);
+    put_two();
+    check(wrote(pulxarrid_step(state, memory, 4096, room), room, PULXARRID_ANSWER_NUMBERS), "the numbers of a step");
+    check(wrote(pulxarrid_turn(state, memory, 4096, 1, room), room, PULXARRID_REPORT_NUMBERS), "the numbers of a turn");
+    check(wrote(pulxarrid_run(state, memory, 4096, 1, room), room, PULXARRID_REPORT_NUMBERS), "the numbers of a run");
+    check(wrote(pulxarrid_pair_run(pair, memory, 4096, turns, 2, room), room, PULXARRID_PAIR_REPORT_NUMBERS),
+          "the numbers of a pair run");
+}
+
 /* All that a call was lent, as it was before. */
 static struct {
     uint64_t pair[PULXARRID_PAIR_WORDS];
-    uint64_t memory[PULXARRID_MEMORY_LEAST], answer[2], report[3];
+    uint64_t memory[PULXARRID_MEMORY_LEAST];
+    uint64_t answer[PULXARRID_ANSWER_NUMBERS], report[PULXARRID_PAIR_REPORT_NUMBERS];
 } found;
 
 static void remember(void)
@@ -392,6 +698,10 @@ static void largest(void)
     check(is(pulxarrid_run(state, m, words, 10, report), report, PULXARRID_NOT_HELD, 3) && report[2] == 2,
           "a run in the last words that a field reaches");
     check(m[top + 31] == 5 && m[top + 32] == 0 && m[words] == 0x77, "stores there");
+    check(tells(report + 3, PULXARRID_INSIDE, 0), "which is inside");
+    check(pulxarrid_start(state, m, top + 31, 0, 0) == 0
+          && is(pulxarrid_run(state, m, top + 31, 10, report), report, PULXARRID_NOT_HELD, 3)
+          && tells(report + 3, PULXARRID_BEYOND_MEMORY, 0), "and beyond a memory that ends before it");
     check(pulxarrid_turn(state, m, words, 10, report) == 0, "a turn in 4,194,304 words");
     check(pulxarrid_run(state, m, words + 1, 10, report) == PULXARRID_BAD_MEMORY, "4,194,305 words are refused");
     check(pulxarrid_turn(state, m, words + 1, 10, report) == PULXARRID_BAD_MEMORY, "by a turn too");
@@ -514,8 +824,15 @@ int main(void)
     start();
     step();
     turn();
+    any_turns();
     run();
     pair_run();
+    operands();
+    no_operand();
+    last_outside();
+    outside_and_exchanges();
+    outside_of_two();
+    numbers_written();
     refusals();
     largest();
     cal();

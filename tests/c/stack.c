@@ -21,7 +21,7 @@
 #define PROGRAMS 500
 
 static uint64_t memory[4096], pair[PULXARRID_PAIR_WORDS];
-static uint64_t answer[2], report[3];
+static uint64_t answer[PULXARRID_ANSWER_NUMBERS], report[PULXARRID_PAIR_REPORT_NUMBERS];
 static const uint8_t schedule[64] = {0, 1, 1, 0, 0, 1};
 static uint16_t parcels[] = {022105, 013777, 0177777, 0147123, 0110300, 0, 020100};
 static uint8_t text[sizeof parcels / sizeof *parcels * PULXARRID_LINE_MOST];
