@@ -595,6 +595,15 @@ fn a_cell_wants_another_answer() {
     let cell = "077ijk with J 0, not S0";
     assert_eq!(reaching(cell, &[element(1)]), 0);
     assert_eq!(reaching(cell, &[element(2)]), 1);
+    // 122300 002000, S3 2000,A2, is over the limit, and that is seen unless
+    // 102177 177777, A1 17777777,A2, tells another cause after it.
+    let code = 0o122_300 << 48 | 0o2000 << 32 | 0o102_177 << 16 | 0o177_777;
+    let outside = |steps| of_word(steps, 0, 0, code);
+    let cell = "12hijkm tells at or over the limit, in monitor mode";
+    assert_eq!(reaching(cell, &[outside(1)]), 1);
+    assert_eq!(reaching(cell, &[outside(2)]), 0);
+    let cell = "10hijkm tells another than an earlier step";
+    assert_eq!(reaching(cell, &[outside(2)]), 1);
 }
 
 /// A number that any change of the texts changes (FNV-1a over their bytes).
