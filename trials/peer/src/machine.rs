@@ -19,7 +19,8 @@ pub const ERROR_EXIT: u16 = 2;
 pub const PROGRAM_RANGE: u16 = 4;
 pub const OPERAND_RANGE: u16 = 8;
 
-/// Why a word is outside of a field: the first test of three that it fails.
+/// Why a word is outside of a field: below its base, at or over its limit, or
+/// beyond memory. They are tested in this order.
 #[derive(Clone, Copy, PartialEq, Eq, Hash, Debug)]
 pub enum Cause {
     Below,
