@@ -15,9 +15,9 @@ mod words;
 
 pub use draw::Draw;
 
-use pulxarrid::{Answer, Ending, Pair, PairRan, Ran, Refused, State, Turned};
+use pulxarrid::{Answer, Ending, Outside, Pair, PairRan, Ran, Refused, State, Stepped, Turned};
 use std::fmt::Debug;
-use words::{answer_of, difference, is_same, words_of};
+use words::{answer_of, difference, is_same, outside_of, words_of};
 
 /// What a call gave, or the number of its refusal.
 pub type Given<T> = Result<T, u8>;
@@ -51,10 +51,14 @@ impl Beside {
         self.states = states;
     }
 
-    pub fn step(&mut self) -> Given<Answer> {
+    pub fn step(&mut self) -> Given<Stepped> {
         let got = pulxarrid::step(&mut self.pair.first, &mut self.memory);
         let wanted = peer::step(&mut self.states[0], &mut self.peers);
-        told(self.agreed(got, wanted.map(answer_of)))
+        let wanted = wanted.map(|r| Stepped {
+            answer: answer_of(r.answer),
+            outside: outside_of(r.outside),
+        });
+        told(self.agreed(got, wanted))
     }
 
     pub fn turn(&mut self, budget: u64) -> Given<Turned> {
@@ -83,6 +87,7 @@ impl Beside {
         let wanted = wanted.map(|r| PairRan {
             last: r.last.map(answer_of),
             steps: r.steps,
+            outside: r.outside.map(outside_of),
         });
         told(self.agreed(got, wanted))
     }
@@ -180,6 +185,16 @@ fn pair_of(states: &[peer::State]) -> Pair {
     }
 }
 
+/// What was told of operands outside, as numbers to count by.
+pub fn cause_of(outside: Option<Outside>) -> usize {
+    match outside {
+        None => 0,
+        Some(Outside::BelowBase(_)) => 1,
+        Some(Outside::OverLimit(_)) => 2,
+        Some(Outside::BeyondMemory(_)) => 3,
+    }
+}
+
 /// The six ways in which a turn or a pair run may end, as numbers to count by.
 pub fn way_of(last: Given<Option<Answer>>) -> usize {
     match last {
@@ -202,8 +217,11 @@ fn ran_of(ended: peer::Ended) -> Ran {
         peer::Stop::NotHeld(p) => Ending::NotHeld(p),
         peer::Stop::MonitorFetch(p) => Ending::MonitorFetch(p),
     };
-    let steps = ended.steps;
-    Ran { ending, steps }
+    Ran {
+        ending,
+        steps: ended.steps,
+        outside: outside_of(ended.outside),
+    }
 }
 
 /// The independent program has no turns: they are made of its steps.
@@ -211,14 +229,20 @@ fn peers_turn(state: &mut peer::State, memory: &mut [u64], budget: u64) -> Given
     // a turn is refused as a run is, even where it would take no step
     let none = if budget > 1_000_000 { budget } else { 0 };
     peer::run(state, memory, none)?;
-    let (mut last, mut steps) = (None, 0);
+    let (mut last, mut steps, mut outside) = (None, 0, None);
     for _ in 0..budget {
-        let answer = answer_of(peer::step(state, memory)?);
+        let step = peer::step(state, memory)?;
+        let answer = answer_of(step.answer);
         last = Some(answer);
         steps += u64::from(matches!(answer, Answer::Stepped | Answer::Exchanged(_)));
+        outside = step.outside.or(outside);
         if answer != Answer::Stepped {
             break;
         }
     }
-    Ok(Turned { last, steps })
+    Ok(Turned {
+        last,
+        steps,
+        outside: outside_of(outside),
+    })
 }

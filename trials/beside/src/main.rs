@@ -4,7 +4,8 @@
 //!   beside KIND FIRST LAST [KIND FIRST LAST ...]
 //!
 //! The sheets are those that `generate` makes, FIRST and LAST both included.
-//! How the run ended, its steps, all registers and all of memory are compared.
+//! How the run ended, its steps, what it tells of operands outside, all registers
+//! and all of memory are compared.
 //! There is a line `NAME: WHAT` for each sheet that differs. A damaged one that
 //! no reader takes is passed over: the library has no reader. The last line is
 //! `N compared, M passed over, D differ`; the exit status is 1 if any differs.

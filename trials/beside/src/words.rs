@@ -1,7 +1,8 @@
 //! A processor of the independent program as the library's words, and the names
 //! of these.
 
-use pulxarrid::{Answer, Register::*, State, STATE_WORDS};
+use peer::Cause;
+use pulxarrid::{Answer, Outside, Register::*, State, STATE_WORDS};
 
 /// Calls `piece` with all words of a processor as the library has them: the
 /// place of the first, and so many from there on.
@@ -60,6 +61,14 @@ pub fn answer_of(answer: peer::Answer) -> Answer {
         peer::Answer::NotHeld(p) => Answer::NotHeld(p),
         peer::Answer::MonitorFetch(p) => Answer::MonitorFetch(p),
     }
+}
+
+pub fn outside_of(outside: Option<peer::Outside>) -> Option<Outside> {
+    outside.map(|peer::Outside { cause, element }| match cause {
+        Cause::Below => Outside::BelowBase(element),
+        Cause::Limit => Outside::OverLimit(element),
+        Cause::Memory => Outside::BeyondMemory(element),
+    })
 }
 
 /// The first word that two processors do not share.

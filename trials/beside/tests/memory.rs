@@ -4,7 +4,7 @@
 //! some begin low, so that P is large, the others high, up to the last blocks.
 
 use beside::program::{near, Shapes, LANDING};
-use beside::{start, Beside, Draw};
+use beside::{cause_of, start, Beside, Draw};
 use std::ops::Range;
 
 beside::tests!(calls_in_the_largest_memory);
@@ -84,6 +84,9 @@ struct Tally {
     runs: u64,
     turns: u64,
     pair_runs: u64,
+    /// Calls that told nothing of operands outside, and each cause; no limit is
+    /// beyond this memory.
+    causes: [u64; 4],
     /// Calls that began with P over 2^22, and that ended so.
     high: u64,
     /// Words that were changed, and those of them in the last 2^16.
@@ -106,14 +109,25 @@ fn calls(draw: &mut Draw, beside: &mut Beside, tally: &mut Tally) {
         beside.put(states.to_vec());
         let high = beside.states[0].p > 1 << 22;
         let budget = 1 + draw.below(300);
-        match kind {
-            0 => tally.runs += beside.run(budget).unwrap().steps,
-            1 => tally.turns += beside.turn(budget).unwrap().steps,
+        let outside = match kind {
+            0 => {
+                let ran = beside.run(budget).unwrap();
+                tally.runs += ran.steps;
+                ran.outside
+            }
+            1 => {
+                let turned = beside.turn(budget).unwrap();
+                tally.turns += turned.steps;
+                turned.outside
+            }
             _ => {
                 let schedule: Vec<u8> = (0..budget).map(|_| draw.bits(1) as u8).collect();
-                tally.pair_runs += beside.pair_run(&schedule).unwrap().steps;
+                let ran = beside.pair_run(&schedule).unwrap();
+                tally.pair_runs += ran.steps;
+                ran.outside[0]
             }
-        }
+        };
+        tally.causes[cause_of(outside)] += 1;
         tally.high += u64::from(high && beside.states[0].p > 1 << 22);
     }
 }
@@ -142,5 +156,6 @@ fn calls_in_the_largest_memory() {
     }
     println!("{tally:?}");
     assert!(tally.runs >= 200_000 && tally.turns >= 150_000 && tally.pair_runs >= 100_000);
+    assert!(tally.causes[1] >= 2_500 && tally.causes[2] >= 200);
     assert!(tally.high >= 1_500 && tally.changed >= 100_000 && tally.changed_high >= 20_000);
 }

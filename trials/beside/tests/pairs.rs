@@ -1,7 +1,7 @@
 //! Pair runs: with any schedule, and of two programs that loop.
 
 use beside::sheets::memory;
-use beside::{start, way_of, Beside, Draw};
+use beside::{cause_of, start, way_of, Beside, Draw};
 
 beside::tests!(pair_runs_with_any_schedule, pair_runs_that_loop);
 
@@ -17,7 +17,7 @@ fn any_schedule(draw: &mut Draw, length: u64, often: u64) -> Vec<u8> {
 
 fn pair_runs_with_any_schedule() {
     let mut draw = Draw::new(4);
-    let mut kinds = [0; 6];
+    let (mut kinds, mut causes) = ([0; 6], [[0; 4]; 2]);
     for seed in 0..3_000 {
         let memory = memory("random", seed);
         let mut x = start(&memory, 0, 0).unwrap();
@@ -41,9 +41,14 @@ fn pair_runs_with_any_schedule() {
         for _ in 0..2 {
             let ran = beside.pair_run(&schedule);
             kinds[way_of(ran.map(|r| r.last))] += 1;
+            for (n, outside) in ran.map_or([None; 2], |r| r.outside).into_iter().enumerate() {
+                causes[n][cause_of(outside)] += 1;
+            }
         }
     }
     assert!(kinds.iter().all(|n| *n > 10), "{kinds:?}");
+    let causes = causes.concat();
+    assert!(causes.iter().all(|n| *n > 10), "{causes:?}");
 }
 
 /// A schedule whose turns have 1 to `most` steps.
@@ -81,7 +86,7 @@ fn storing(beside: &Beside, schedule: &[u8]) -> [bool; 2] {
 fn pair_runs_that_loop() {
     let mut draw = Draw::new(9);
     let mut lengths = Vec::new();
-    let (mut both_stepped, mut both_stored) = (0, 0);
+    let (mut both_stepped, mut both_stored, mut both_told) = (0, 0, 0);
     for seed in 0..400 {
         let memory = memory("loops", seed);
         let x = start(&memory, 0, 0).unwrap();
@@ -95,7 +100,9 @@ fn pair_runs_that_loop() {
             let most = 1 + draw.below(20);
             let schedule = short_turns(&mut draw, length, most);
             both_stored += usize::from(storing(&beside, &schedule) == [true; 2]);
-            let steps = beside.pair_run(&schedule).unwrap().steps;
+            let ran = beside.pair_run(&schedule).unwrap();
+            both_told += usize::from(ran.outside.iter().all(Option::is_some));
+            let steps = ran.steps;
             let taken = &schedule[..steps as usize];
             both_stepped += usize::from([0, 1].iter().all(|turn| taken.contains(turn)));
             lengths.push(steps);
@@ -104,7 +111,9 @@ fn pair_runs_that_loop() {
     lengths.sort_unstable();
     let (count, median) = (lengths.len(), lengths[lengths.len() / 2]);
     println!("{count} pair runs, median length {median}, both store in {both_stored}");
+    println!("both tell of operands outside in {both_told}");
     assert!(median >= 3_000, "{median}");
     assert_eq!(both_stepped, count);
     assert!(both_stored * 4 > count * 3, "{both_stored} of {count}");
+    assert!(both_told * 4 > count, "{both_told} of {count}");
 }

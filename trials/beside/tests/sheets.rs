@@ -4,7 +4,7 @@
 use beside::sheets::{memory, run, sheet, Desk};
 use beside::{start, Beside, Draw};
 use peer::codes::{find, CODES};
-use pulxarrid::{Answer, Ending};
+use pulxarrid::{Answer, Ending, Turned};
 
 beside::tests!(
     every_first_parcel_in_both_modes,
@@ -50,7 +50,13 @@ fn the_sheets_of_the_sweep() {
 fn sheets_of_each_kind() {
     let mut desk = Desk::default();
     let mut steps = 0;
-    let kinds = [("random", 2_000), ("probes", 500), ("rings", 300), ("loops", 100)];
+    let kinds = [
+        ("random", 2_000),
+        ("probes", 500),
+        ("rings", 300),
+        ("loops", 100),
+        ("outside", 1_040),
+    ];
     for (kind, count) in kinds {
         for seed in 0..count {
             steps += run(&mut desk, kind, seed, 10_000).steps;
@@ -81,17 +87,24 @@ fn turns_are_steps() {
         for _ in 0..10 {
             let budget = draw.below(20);
             let (mut twin, mut twins) = (state.clone(), memory.clone());
-            let (mut last, mut steps) = (None, 0);
+            let (mut last, mut steps, mut outside) = (None, 0, None);
             for _ in 0..budget {
-                let answer = pulxarrid::step(&mut twin, &mut twins).unwrap();
+                let step = pulxarrid::step(&mut twin, &mut twins).unwrap();
+                let answer = step.answer;
                 steps += u64::from(matches!(answer, Answer::Stepped | Answer::Exchanged(_)));
                 last = Some(answer);
+                outside = step.outside.or(outside);
                 if answer != Answer::Stepped {
                     break;
                 }
             }
             let turned = pulxarrid::turn(&mut state, &mut memory, budget).unwrap();
-            assert_eq!((turned.last, turned.steps), (last, steps));
+            let wanted = Turned {
+                last,
+                steps,
+                outside,
+            };
+            assert_eq!(turned, wanted);
             assert!(state == twin && memory == twins);
         }
     }

@@ -1,6 +1,6 @@
 //! Starts, steps, turns and runs from any state, refused ones among them.
 
-use beside::{start, way_of, Beside, Draw};
+use beside::{cause_of, start, way_of, Beside, Draw};
 use pulxarrid::{Answer, Ending};
 
 beside::tests!(
@@ -47,9 +47,11 @@ fn starts_from_any_package() {
 
 fn steps_from_any_state() {
     let mut draw = Draw::new(1);
-    let mut kinds = [0; 5];
+    let (mut kinds, mut causes) = ([0; 5], [0; 4]);
     for _ in 0..4_000 {
-        let kind = match any_case(&mut draw, 4_096).step() {
+        let stepped = any_case(&mut draw, 4_096).step();
+        causes[stepped.map_or(0, |r| cause_of(r.outside))] += 1;
+        let kind = match stepped.map(|r| r.answer) {
             Ok(Answer::Stepped) => 0,
             Ok(Answer::Exchanged(_)) => 1,
             Ok(Answer::NotHeld(_)) => 2,
@@ -59,24 +61,29 @@ fn steps_from_any_state() {
         kinds[kind] += 1;
     }
     assert!(kinds.iter().all(|n| *n > 20), "{kinds:?}");
+    assert!(causes.iter().all(|n| *n > 20), "{causes:?}");
 }
+
 fn turns_from_any_state() {
     let mut draw = Draw::new(6);
-    let mut kinds = [0; 6];
+    let (mut kinds, mut causes) = ([0; 6], [0; 4]);
     for _ in 0..4_000 {
         let mut beside = any_case(&mut draw, 4_095);
         let turned = beside.turn(any_budget(&mut draw, 8));
+        causes[turned.map_or(0, |r| cause_of(r.outside))] += 1;
         kinds[way_of(turned.map(|r| r.last))] += 1;
     }
     assert!(kinds.iter().all(|n| *n > 20), "{kinds:?}");
+    assert!(causes.iter().all(|n| *n > 20), "{causes:?}");
 }
 
 fn runs_from_any_state() {
     let mut draw = Draw::new(2);
-    let mut kinds = [0; 4];
+    let (mut kinds, mut causes) = ([0; 4], [0; 4]);
     for _ in 0..3_000 {
         let mut beside = any_case(&mut draw, 4_095);
         let ran = beside.run(any_budget(&mut draw, 40));
+        causes[ran.map_or(0, |r| cause_of(r.outside))] += 1;
         let kind = match ran.map(|r| r.ending) {
             Ok(Ending::Budget) => 0,
             Ok(Ending::NotHeld(_)) => 1,
@@ -86,4 +93,5 @@ fn runs_from_any_state() {
         kinds[kind] += 1;
     }
     assert!(kinds.iter().all(|n| *n > 20), "{kinds:?}");
+    assert!(causes.iter().all(|n| *n > 20), "{causes:?}");
 }

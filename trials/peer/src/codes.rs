@@ -198,28 +198,51 @@ pub fn is_vector(text: &str) -> bool {
     text.starts_with("14") || text.starts_with("15") || text.starts_with("17")
 }
 
-/// Whether an instruction refers to memory: none, reads, or stores.
+/// Whether an instruction refers to memory: to none, to one word, to those of a
+/// block move, to those of a vector; and whether it stores.
 #[derive(Clone, Copy, PartialEq, Eq, Debug)]
 pub enum Reference {
     No,
     Word(bool),
-    Row(bool),
+    Block(bool),
+    Vector(bool),
 }
 
 pub fn reference(text: &str) -> Reference {
     match text {
         "10hijkm" | "12hijkm" => Reference::Word(false),
         "11hijkm" | "13hijkm" => Reference::Word(true),
-        "034ijk" | "036ijk" | "176i0k" => Reference::Row(false),
-        "035ijk" | "037ijk" | "1770jk" => Reference::Row(true),
+        "034ijk" | "036ijk" => Reference::Block(false),
+        "035ijk" | "037ijk" => Reference::Block(true),
+        "176i0k" => Reference::Vector(false),
+        "1770jk" => Reference::Vector(true),
         _ => Reference::No,
+    }
+}
+
+/// The most words that an instruction moves.
+pub fn most_words(text: &str) -> u32 {
+    match reference(text) {
+        Reference::No => 0,
+        Reference::Word(_) => 1,
+        Reference::Block(_) => 127,
+        Reference::Vector(_) => 64,
+    }
+}
+
+/// The number of the register that a reference moves, or moves first.
+pub fn moved(text: &str, parcel: u16) -> u16 {
+    match reference(text) {
+        Reference::Block(_) => parcel & 0o77,
+        Reference::Vector(true) => parcel >> 3 & 7,
+        _ => parcel >> 6 & 7,
     }
 }
 
 /// Whether an instruction stores words.
 pub fn stores(text: &str) -> bool {
-    let kind = reference(text);
-    matches!(kind, Reference::Row(true) | Reference::Word(true))
+    use Reference::*;
+    matches!(reference(text), Word(true) | Block(true) | Vector(true))
 }
 
 /// Whether nothing is held of a code, given by its first seven bits.

@@ -26,6 +26,7 @@ mod cal_tests;
 #[cfg(test)]
 mod tests;
 
-pub use machine::{pair_run, run, start, step, Answer, Ended, PairEnded, Stop};
+pub use machine::{pair_run, run, start, step};
+pub use machine::{Answer, Cause, Ended, Outside, PairEnded, Step, Stop};
 pub use sheet::{answer, read, report, Sheet};
 pub use state::State;

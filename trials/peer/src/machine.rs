@@ -19,6 +19,31 @@ pub const ERROR_EXIT: u16 = 2;
 pub const PROGRAM_RANGE: u16 = 4;
 pub const OPERAND_RANGE: u16 = 8;
 
+/// Why a word is outside of a field: below its base, at or over its limit, or
+/// beyond memory. They are tested in this order.
+#[derive(Clone, Copy, PartialEq, Eq, Hash, Debug)]
+pub enum Cause {
+    Below,
+    Limit,
+    Memory,
+}
+
+/// An operand outside: why, and its number among the words that its
+/// instruction moves, from 0.
+#[derive(Clone, Copy, PartialEq, Eq, Debug)]
+pub struct Outside {
+    pub cause: Cause,
+    pub element: u8,
+}
+
+/// What one step came to: its answer, and the first of its operands that was
+/// outside, if any.
+#[derive(Clone, Copy, PartialEq, Eq, Debug)]
+pub struct Step {
+    pub answer: Answer,
+    pub outside: Option<Outside>,
+}
+
 /// How a run ended.
 #[derive(Clone, Copy, PartialEq, Eq, Debug)]
 pub enum Stop {
@@ -27,18 +52,22 @@ pub enum Stop {
     MonitorFetch(u32),
 }
 
-/// A run's end and the steps that stepped or exchanged.
+/// A run's end, what the last step with an operand outside told of it, and the
+/// steps that stepped or exchanged.
 #[derive(Clone, Copy, PartialEq, Eq, Debug)]
 pub struct Ended {
     pub stop: Stop,
+    pub outside: Option<Outside>,
     pub steps: u64,
 }
 
-/// A pair run's count and its last answer, none for an empty schedule.
+/// A pair run's count, its last answer, none for an empty schedule, and what
+/// each processor's last step with an operand outside told of it.
 #[derive(Clone, Copy, PartialEq, Eq, Debug)]
 pub struct PairEnded {
     pub steps: u64,
     pub last: Option<Answer>,
+    pub outside: [Option<Outside>; 2],
 }
 
 /// What an instruction tells the step that called it.
@@ -47,32 +76,24 @@ pub(crate) enum Flow {
     Next,
     NormalExit,
     ErrorExit,
-    OperandOutside,
+    OperandOutside(Outside),
     SecondOutside,
     NotHeld,
 }
 
-/// Where an address falls, by the three tests of a field in their order.
-#[derive(Clone, Copy, PartialEq, Eq, Debug)]
-pub enum Place {
-    Inside,
-    Below,
-    Limit,
-    Memory,
-}
-
-/// The rule for fields word for word. The machine uses `Window` instead, and
-/// the tests hold one against the other.
-pub fn place(base: u32, limit: u32, length: usize, address: u32) -> Place {
+/// The rule for fields word for word: the place in memory of an address, or
+/// why it is outside. The machine uses `Window` instead, and the tests hold one
+/// against the other.
+pub fn place(base: u32, limit: u32, length: usize, address: u32) -> Result<usize, Cause> {
     let word = ((address & MASK22) + base * 32) & MASK22;
     if word < base * 32 {
-        Place::Below
+        Err(Cause::Below)
     } else if word >= limit * 32 {
-        Place::Limit
+        Err(Cause::Limit)
     } else if word as usize >= length {
-        Place::Memory
+        Err(Cause::Memory)
     } else {
-        Place::Inside
+        Ok(word as usize)
     }
 }
 
@@ -85,14 +106,27 @@ pub fn place(base: u32, limit: u32, length: usize, address: u32) -> Place {
 pub(crate) struct Window {
     base: usize,
     span: usize,
+    limit: usize,
 }
 
 impl Window {
     pub(crate) fn new(base: u32, limit: u32, length: usize) -> Window {
-        let base = base as usize * 32;
-        let end = (limit as usize * 32).min(length);
-        let span = end.saturating_sub(base);
-        Window { base, span }
+        let (base, limit) = (base as usize * 32, limit as usize * 32);
+        let span = limit.min(length).saturating_sub(base);
+        Window { base, span, limit }
+    }
+
+    /// Why a word address is outside, if it is.
+    #[cold]
+    pub(crate) fn cause(self, address: u32) -> Cause {
+        let sum = self.base + (address & MASK22) as usize;
+        if sum > MASK22 as usize {
+            Cause::Below
+        } else if sum >= self.limit {
+            Cause::Limit
+        } else {
+            Cause::Memory
+        }
     }
 
     /// The place in memory of a word address, if it is inside.
@@ -123,7 +157,7 @@ pub struct Machine<'s> {
 
 impl<'s> Machine<'s> {
     pub fn new(state: &'s mut State, memory: &[u64]) -> Machine<'s> {
-        let none = Window { base: 0, span: 0 };
+        let none = Window::new(0, 0, 0);
         let mut machine = Machine {
             r: state,
             code: none,
@@ -157,18 +191,33 @@ impl<'s> Machine<'s> {
         Some(u32::from(parcel))
     }
 
+    /// What is told of an operand outside.
+    pub(crate) fn missed(&self, address: u32, element: usize) -> Outside {
+        Outside {
+            cause: self.data.cause(address),
+            element: element as u8,
+        }
+    }
+
     /// One step, the state and the memory having been accepted.
     #[inline(always)]
-    pub fn advance(&mut self, memory: &mut [u64]) -> Answer {
+    pub fn advance(&mut self, memory: &mut [u64]) -> Step {
         let p = self.r.p;
         let Some(first) = self.parcel(memory, p) else {
-            return self.outside(memory);
+            let (answer, outside) = (self.outside(memory), None);
+            return Step { answer, outside };
         };
         self.r.p = (p + 1) & MASK24;
-        match TABLE[usize::from(first >> 9)](self, memory, first) {
+        let flow = TABLE[usize::from(first >> 9)](self, memory, first);
+        let answer = match flow {
             Flow::Next => Answer::Stepped,
-            flow => self.settle(memory, flow, p),
-        }
+            _ => self.settle(memory, flow, p),
+        };
+        let outside = match flow {
+            Flow::OperandOutside(outside) => Some(outside),
+            _ => None,
+        };
+        Step { answer, outside }
     }
 
     /// Ends a step that did not simply go on. A refused instruction leaves P
@@ -181,7 +230,7 @@ impl<'s> Machine<'s> {
             Flow::Next => Answer::Stepped,
             Flow::NormalExit => self.exchange(memory, flag(NORMAL_EXIT)),
             Flow::ErrorExit => self.exchange(memory, flag(ERROR_EXIT)),
-            Flow::OperandOutside => {
+            Flow::OperandOutside(_) => {
                 if user && self.r.ior {
                     self.exchange(memory, OPERAND_RANGE)
                 } else {
@@ -220,9 +269,11 @@ impl<'s> Machine<'s> {
     }
 
     fn take(&mut self, memory: &mut [u64], budget: u64) -> Ended {
-        let mut steps = 0;
+        let (mut outside, mut steps) = (None, 0);
         while steps < budget {
-            let stop = match self.advance(memory) {
+            let step = self.advance(memory);
+            outside = step.outside.or(outside);
+            let stop = match step.answer {
                 Answer::Stepped | Answer::Exchanged(_) => {
                     steps += 1;
                     continue;
@@ -230,10 +281,18 @@ impl<'s> Machine<'s> {
                 Answer::NotHeld(p) => Stop::NotHeld(p),
                 Answer::MonitorFetch(p) => Stop::MonitorFetch(p),
             };
-            return Ended { stop, steps };
+            return Ended {
+                stop,
+                outside,
+                steps,
+            };
         }
         let stop = Stop::Budget;
-        Ended { stop, steps }
+        Ended {
+            stop,
+            outside,
+            steps,
+        }
     }
 }
 
@@ -264,7 +323,7 @@ pub fn start(memory: &[u64], package: u64, processor: u32) -> Result<State, u8> 
 }
 
 /// One step.
-pub fn step(state: &mut State, memory: &mut [u64]) -> Result<Answer, u8> {
+pub fn step(state: &mut State, memory: &mut [u64]) -> Result<Step, u8> {
     demand_memory(memory)?;
     demand(state.processor <= 1, 4)?;
     demand(state.fits(), 7)?;
@@ -296,10 +355,13 @@ pub fn pair_run(
     let mut ended = PairEnded {
         steps: 0,
         last: None,
+        outside: [None; 2],
     };
     for turn in schedule {
-        let answer = pair[usize::from(*turn)].advance(memory);
+        let turn = usize::from(*turn);
+        let Step { answer, outside } = pair[turn].advance(memory);
         ended.last = Some(answer);
+        ended.outside[turn] = outside.or(ended.outside[turn]);
         if matches!(answer, Answer::Stepped | Answer::Exchanged(_)) {
             ended.steps += 1;
         }

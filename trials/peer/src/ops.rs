@@ -350,19 +350,19 @@ fn read_words(
     (count, stride): (u32, u32),
     put: impl Fn(&mut State, usize, u64),
 ) -> Flow {
-    let (mut flow, mut address) = (Flow::Next, c.r.a[0]);
+    let (mut first, mut address) = (None, c.r.a[0]);
     for n in 0..count as usize {
         let value = match c.data.word(address) {
             Some(at) => memory[at],
             None => {
-                flow = Flow::OperandOutside;
+                first = first.or(Some(c.missed(address, n)));
                 0
             }
         };
         put(c.r, n, value);
         address = address.wrapping_add(stride);
     }
-    flow
+    first.map_or(Flow::Next, Flow::OperandOutside)
 }
 
 /// Stores `count` words from the address in A0 on, each got from `get` by its
@@ -374,15 +374,15 @@ fn store_words(
     (count, stride): (u32, u32),
     get: impl Fn(&State, usize) -> u64,
 ) -> Flow {
-    let (mut flow, mut address) = (Flow::Next, c.r.a[0]);
+    let (mut first, mut address) = (None, c.r.a[0]);
     for n in 0..count as usize {
         match c.data.word(address) {
             Some(at) => memory[at] = get(c.r, n),
-            None => flow = Flow::OperandOutside,
+            None => first = first.or(Some(c.missed(address, n))),
         }
         address = address.wrapping_add(stride);
     }
-    flow
+    first.map_or(Flow::Next, Flow::OperandOutside)
 }
 
 /// The words of a transfer as one piece of memory, where they stand in a row,
@@ -636,7 +636,7 @@ fn load_a(c: &mut Machine, memory: &mut [u64], w: u16) -> Flow {
     };
     let Some(at) = c.data.word(address) else {
         c.r.a[i(w)] = 0;
-        return Flow::OperandOutside;
+        return Flow::OperandOutside(c.missed(address, 0));
     };
     c.r.set_a(i(w), memory[at] as u32)
 }
@@ -646,7 +646,7 @@ fn store_a(c: &mut Machine, memory: &mut [u64], w: u16) -> Flow {
         return Flow::SecondOutside;
     };
     let Some(at) = c.data.word(address) else {
-        return Flow::OperandOutside;
+        return Flow::OperandOutside(c.missed(address, 0));
     };
     memory[at] = u64::from(c.r.a[i(w)]);
     Flow::Next
@@ -658,7 +658,7 @@ fn load_s(c: &mut Machine, memory: &mut [u64], w: u16) -> Flow {
     };
     let Some(at) = c.data.word(address) else {
         c.r.s[i(w)] = 0;
-        return Flow::OperandOutside;
+        return Flow::OperandOutside(c.missed(address, 0));
     };
     c.r.set_s(i(w), memory[at])
 }
@@ -668,7 +668,7 @@ fn store_s(c: &mut Machine, memory: &mut [u64], w: u16) -> Flow {
         return Flow::SecondOutside;
     };
     let Some(at) = c.data.word(address) else {
-        return Flow::OperandOutside;
+        return Flow::OperandOutside(c.missed(address, 0));
     };
     memory[at] = c.r.s[i(w)];
     Flow::Next

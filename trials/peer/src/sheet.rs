@@ -1,6 +1,6 @@
 //! The case sheet: its reader, and the answer that a program prints.
 
-use crate::machine::{run, start, Ended, Stop};
+use crate::machine::{run, start, Cause, Ended, Outside, Stop};
 use crate::state::State;
 use std::fmt::Write;
 
@@ -135,8 +135,9 @@ pub fn report(state: &State, ended: Ended, before: &[u64], after: &[u64]) -> Str
     // Writing to a string never fails.
     let _ = write!(
         text,
-        "stop={stop}\nsteps={}\np={:06X}\nxa={:02X}\nvl={}\nmodes={:02X}\n\
+        "stop={stop}\noutside={}\nsteps={}\np={:06X}\nxa={:02X}\nvl={}\nmodes={:02X}\n\
          iba={:05X}\nila={:05X}\ndba={:05X}\ndla={:05X}\nps={}\ncln={}\na={a}\ns={s}\n",
+        told(ended.outside),
         ended.steps,
         state.p,
         state.xa,
@@ -151,6 +152,19 @@ pub fn report(state: &State, ended: Ended, before: &[u64], after: &[u64]) -> Str
     );
     changes(&mut text, before, after);
     text
+}
+
+/// The cause and the element of the last operand outside.
+fn told(outside: Option<Outside>) -> String {
+    let Some(Outside { cause, element }) = outside else {
+        return "none".to_string();
+    };
+    let cause = match cause {
+        Cause::Below => "below",
+        Cause::Limit => "limit",
+        Cause::Memory => "memory",
+    };
+    format!("{cause},{element}")
 }
 
 fn changes(text: &mut String, before: &[u64], after: &[u64]) {

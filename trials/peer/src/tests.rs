@@ -4,15 +4,16 @@
 use crate::cases;
 use crate::codes::{find, CODES};
 use crate::cover::Cover;
-use crate::machine::{place, Place, Window};
-use crate::{answer, pair_run, read, run, start, step, Answer, PairEnded, State, Stop};
+use crate::machine::{place, Window};
+use crate::{answer, pair_run, read, run, start, step};
+use crate::{Answer, Cause, Outside, PairEnded, State, Stop};
 
 const EXAMPLE: &str = "steps=4\nwords=5\n0001=0000000400000000\n0002=0000000800000000\n\
     0004=0000000800000000\n0005=0000000C00000000\n0400=2445248730CA90C0\n";
 
 #[test]
 fn the_example_is_answered_to_the_byte() {
-    let expected = "stop=budget\nsteps=4\np=000005\nxa=00\nvl=64\nmodes=00\n\
+    let expected = "stop=budget\noutside=none\nsteps=4\np=000005\nxa=00\nvl=64\nmodes=00\n\
         iba=00020\nila=00040\ndba=00040\ndla=00060\nps=0\ncln=0\n\
         a=000000,000005,000007,00000C,000000,000000,000000,000000\n\
         s=0,0,0,0,0,0,0,0\nchanged=1\n0800=000000000000000C\n";
@@ -28,11 +29,16 @@ fn ready() -> (State, Vec<u64>) {
     (state, vec![0; 4_096])
 }
 
+/// The answer of a step alone.
+fn answered(state: &mut State, memory: &mut [u64]) -> Result<Answer, u8> {
+    step(state, memory).map(|step| step.answer)
+}
+
 /// Steps one instruction of up to two parcels, placed at parcel 0.
 fn execute(state: &mut State, first: u16, second: u16) -> Answer {
     let mut memory = vec![0; 4_096];
     memory[0] = u64::from(first) << 48 | u64::from(second) << 32;
-    step(state, &mut memory).unwrap()
+    answered(state, &mut memory).unwrap()
 }
 
 /// The state after one instruction that must step.
@@ -174,7 +180,7 @@ fn counts_of_held_first_parcels() {
         state.p = 127;
         state.ila = 1;
         memory[31] = u64::from(first);
-        let two = step(&mut state, &mut memory) == Ok(Answer::MonitorFetch(127));
+        let two = answered(&mut state, &mut memory) == Ok(Answer::MonitorFetch(127));
         assert_eq!(
             two,
             code.is_some_and(|n| CODES[n].two_parcels()),
@@ -200,12 +206,92 @@ fn windows_follow_the_rule_for_fields() {
                 let window = Window::new(base, limit, length);
                 for address in &addresses {
                     let address = address & 0xFF_FFFF;
-                    let word = ((address & 0x3F_FFFF) + base * 32) & 0x3F_FFFF;
-                    let inside = place(base, limit, length, address) == Place::Inside;
-                    assert_eq!(window.word(address), inside.then_some(word as usize));
+                    let found = window.word(address);
+                    let found = found.ok_or_else(|| window.cause(address));
+                    assert_eq!(found, place(base, limit, length, address));
                 }
             }
         }
+    }
+}
+
+fn told(cause: Cause, element: u8) -> Option<Outside> {
+    Some(Outside { cause, element })
+}
+
+/// Rows from A0 with increment A2 in a data field from word 2048 to the limit,
+/// and what a step tells of them.
+#[test]
+fn a_step_tells_the_first_operand_outside() {
+    let minus = |n: u32| 0x100_0000 - n;
+    let rows = [
+        // 037 and 034 of 100 words, 177 and 176 of 64
+        (0o037_100, 1_000, 0, 96, told(Cause::Limit, 24)),
+        (0o034_140, 924, 0, 96, None),
+        (0o034_140, 925, 0, 96, told(Cause::Limit, 99)),
+        (0o177_012, 3, minus(1), 96, told(Cause::Below, 4)),
+        (0o176_102, 2_040, 2, 200, told(Cause::Memory, 4)),
+        // other causes later, and a word that has two or three
+        (0o035_100, minus(5), 0, 64, told(Cause::Below, 0)),
+        (0o177_012, 2_048, 0, 96, told(Cause::Limit, 0)),
+        (0o177_012, minus(1), 0, 63, told(Cause::Below, 0)),
+        (0o176_102, 2_100, 1, 130, told(Cause::Memory, 0)),
+        (0o176_102, 2_100, 1, 129, told(Cause::Limit, 0)),
+    ];
+    for (parcel, a0, a2, limit, wanted) in rows {
+        for (monitor, ior) in [(true, true), (true, false), (false, true), (false, false)] {
+            let (mut state, mut memory) = ready();
+            (state.mm, state.ior, state.xa) = (monitor, ior, 9);
+            (state.dba, state.dla) = (64, limit);
+            (state.a[0], state.a[1], state.a[2]) = (a0, 100, a2);
+            memory[0] = parcel << 48;
+            let step = step(&mut state, &mut memory).unwrap();
+            assert_eq!(step.outside, wanted, "{parcel:o} {a0} {limit}");
+            let exchanged = wanted.is_some() && !monitor && ior;
+            assert_eq!(step.answer == Answer::Exchanged(8), exchanged);
+        }
+    }
+}
+
+/// A processor whose step at parcel 0 reads over its data limit, and whose step
+/// at parcel 3 reads down to the word before its base.
+fn leaving(processor: u32, p: u32) -> (State, Vec<u64>) {
+    let (mut state, mut memory) = ready();
+    (state.processor, state.p, state.xa) = (processor, p, 9);
+    (state.dba, state.dla, state.vl) = (64, 96, 64);
+    (state.a[0], state.a[1]) = (62, 0xFF_FFFF);
+    // S1 2000,A2; S2 <1; V1 ,A0,A1; S1 2000,A2; EX
+    memory[0] = 0o122_100 << 48 | 0o2000 << 32 | 0o042_277 << 16 | 0o176_101;
+    memory[1] = 0o122_100 << 48 | 0o2000 << 32 | 0o004_000 << 16;
+    (state, memory)
+}
+
+#[test]
+fn a_run_tells_the_last_that_was_told() {
+    let (limit, below) = (told(Cause::Limit, 0), told(Cause::Below, 63));
+    let wanted = [None, limit, limit, below, limit, limit];
+    for (budget, wanted) in (0..).zip(wanted) {
+        let (mut state, mut memory) = leaving(0, 0);
+        let ended = run(&mut state, &mut memory, budget).unwrap();
+        assert_eq!((ended.steps, ended.outside), (budget, wanted));
+    }
+}
+
+#[test]
+fn each_of_a_pair_tells_its_own() {
+    let (limit, below) = (told(Cause::Limit, 0), told(Cause::Below, 63));
+    let schedules: [(&[u8], [Option<Outside>; 2]); 5] = [
+        (&[], [None, None]),
+        (&[0, 0], [limit, None]),
+        (&[1], [None, below]),
+        (&[0, 1, 0], [limit, below]),
+        (&[1, 1, 0, 0, 0], [below, limit]),
+    ];
+    for (schedule, wanted) in schedules {
+        let (mut first, mut memory) = leaving(0, 0);
+        let (mut second, _) = leaving(1, 3);
+        let ended = pair_run(&mut first, &mut second, &mut memory, schedule);
+        assert_eq!(ended.unwrap().outside, wanted);
     }
 }
 
@@ -236,7 +322,7 @@ fn the_old_xa_chooses_the_package() {
     state.a[1] = 0x1234;
     memory[0] = 0o004_000 << 48;
     memory[16 * 3 + 3] = 9 << 40;
-    assert_eq!(step(&mut state, &mut memory), Ok(Answer::Exchanged(1)));
+    assert_eq!(answered(&mut state, &mut memory), Ok(Answer::Exchanged(1)));
     assert_eq!((state.xa, state.vl, state.a[1]), (9, 64, 0));
     assert_eq!(memory[48], 1 << 24);
     assert_eq!(memory[49], 0x1234);
@@ -249,7 +335,7 @@ fn exits_in_monitor_mode_set_no_flag() {
         let (mut state, mut memory) = ready();
         state.xa = 5;
         memory[0] = code << 48;
-        assert_eq!(step(&mut state, &mut memory), Ok(Answer::Exchanged(0)));
+        assert_eq!(answered(&mut state, &mut memory), Ok(Answer::Exchanged(0)));
         assert_eq!(memory[80] >> 24, 1);
     }
 }
@@ -330,6 +416,7 @@ fn pair_runs_refuse_in_order() {
     let idle = PairEnded {
         steps: 0,
         last: None,
+        outside: [None; 2],
     };
     assert_eq!(pair(&mut first, &mut second, &[]), Ok(idle));
     assert_eq!(pair(&mut first, &mut second, &[0, 2]), Err(6));
@@ -390,16 +477,24 @@ fn a_run_takes_the_steps_of_step() {
         let (mut other, mut copy) = (state.clone(), memory.clone());
         let budget = sheet.steps.min(500);
         let ended = run(&mut state, &mut memory, budget).unwrap();
+        let mut outside = None;
         for _ in 0..ended.steps {
-            let answer = step(&mut other, &mut copy).unwrap();
-            assert!(matches!(answer, Answer::Stepped | Answer::Exchanged(_)));
+            let step = step(&mut other, &mut copy).unwrap();
+            assert!(matches!(
+                step.answer,
+                Answer::Stepped | Answer::Exchanged(_)
+            ));
+            outside = step.outside.or(outside);
         }
+        assert_eq!(ended.outside, outside);
         assert!(other == state && copy == memory);
         match ended.stop {
             Stop::Budget => assert_eq!(ended.steps, budget),
-            Stop::NotHeld(p) => assert_eq!(step(&mut other, &mut copy), Ok(Answer::NotHeld(p))),
+            Stop::NotHeld(p) => {
+                assert_eq!(answered(&mut other, &mut copy), Ok(Answer::NotHeld(p)));
+            }
             Stop::MonitorFetch(p) => {
-                assert_eq!(step(&mut other, &mut copy), Ok(Answer::MonitorFetch(p)));
+                assert_eq!(answered(&mut other, &mut copy), Ok(Answer::MonitorFetch(p)));
             }
         }
         assert!(other == state && copy == memory);
@@ -453,6 +548,7 @@ fn kinds_make_good_and_bad_sheets() {
     for seed in 0..200 {
         assert!(read(&cases::text("random", seed).unwrap()).is_ok());
         assert!(read(&cases::text("sweep", seed * 655).unwrap()).is_ok());
+        assert!(read(&cases::text("outside", seed).unwrap()).is_ok());
     }
     let good = |seed: &u64| read(&cases::text("damaged", *seed).unwrap()).is_ok();
     let whole = (0..1_000).filter(good).count();
@@ -499,6 +595,15 @@ fn a_cell_wants_another_answer() {
     let cell = "077ijk with J 0, not S0";
     assert_eq!(reaching(cell, &[element(1)]), 0);
     assert_eq!(reaching(cell, &[element(2)]), 1);
+    // 122300 002000, S3 2000,A2, is over the limit, and that is seen unless
+    // 102177 177777, A1 17777777,A2, tells another cause after it.
+    let code = 0o122_300 << 48 | 0o2000 << 32 | 0o102_177 << 16 | 0o177_777;
+    let outside = |steps| of_word(steps, 0, 0, code);
+    let cell = "12hijkm tells at or over the limit, in monitor mode";
+    assert_eq!(reaching(cell, &[outside(1)]), 1);
+    assert_eq!(reaching(cell, &[outside(2)]), 0);
+    let cell = "10hijkm tells another than an earlier step";
+    assert_eq!(reaching(cell, &[outside(2)]), 1);
 }
 
 /// A number that any change of the texts changes (FNV-1a over their bytes).
@@ -518,6 +623,7 @@ fn seeds_name_the_same_texts_for_ever() {
     assert_eq!(mark("probes", 0..100), 0xF03A_00E4_9BA8_04AF);
     assert_eq!(mark("rings", 0..100), 0x4168_C04A_32AF_5A22);
     assert_eq!(mark("loops", 0..100), 0x1070_4969_8A70_4C53);
+    assert_eq!(mark("outside", 0..312), 0x8AF7_4D3C_9EC3_F71E);
     assert_eq!(mark("numbers", 0..100), 0xE5EB_3C9D_8EB1_14D5);
     assert_eq!(mark("cal", 0..100), 0x75BA_6BDE_5C35_1D85);
     assert_eq!(mark("cal-damaged", 0..400), 0x18B1_1362_AF6A_9045);

@@ -4,10 +4,10 @@
 //!   generate KIND FIRST LAST          a pack of texts to standard output
 //!   generate KIND FIRST LAST FOLDER   one file for each text
 //!
-//! KIND is random, sweep, loops, rings or damaged for sheets, cal or cal-damaged for texts of
-//! the assembler, octal for those of the lister; FIRST and LAST are both
-//! included. A pack has, for each text, a line `@ NAME BYTES` and then so many
-//! bytes.
+//! KIND is random, sweep, probes, loops, rings, outside, damaged or numbers for
+//! sheets, cal or cal-damaged for texts of the assembler, octal for those of the
+//! lister; FIRST and LAST are both included. A pack has, for each text, a line
+//! `@ NAME BYTES` and then so many bytes.
 
 use peer::cases::{Kind, KINDS};
 use std::io::{self, BufWriter, Write};

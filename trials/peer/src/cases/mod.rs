@@ -10,6 +10,7 @@ mod damaged;
 mod draw;
 mod loops;
 mod octal;
+mod outside;
 mod parts;
 mod probes;
 mod random;
@@ -29,12 +30,13 @@ pub struct Kind {
 }
 
 #[rustfmt::skip]
-pub const KINDS: [Kind; 10] = [
+pub const KINDS: [Kind; 11] = [
     Kind { name: "random", ending: "sheet", text: random::sheet },
     Kind { name: "sweep", ending: "sheet", text: sweep::sheet },
     Kind { name: "probes", ending: "sheet", text: probes::sheet },
     Kind { name: "loops", ending: "sheet", text: loops::sheet },
     Kind { name: "rings", ending: "sheet", text: rings::sheet },
+    Kind { name: "outside", ending: "sheet", text: outside::sheet },
     Kind { name: "damaged", ending: "sheet", text: damaged::sheet },
     Kind { name: "numbers", ending: "sheet", text: damaged::numbers },
     Kind { name: "cal", ending: "cal", text: cal::text },

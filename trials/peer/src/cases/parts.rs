@@ -1,6 +1,6 @@
-//! Parts that the random and the sweep sheets share: fields, addresses near
-//! their edges, a program that fills the registers no package holds, and one
-//! that folds or writes them to memory so that the answer shows them.
+//! Parts that several kinds of sheets share: fields, addresses near their
+//! edges, a program that fills the registers no package holds, and one that
+//! folds or writes them to memory so that the answer shows them.
 
 use super::build::Program;
 use super::draw::Draw;
@@ -69,6 +69,14 @@ pub fn stride(draw: &mut Draw) -> u32 {
         3 => draw.from(1, 8) as u32 | 0xC0_0000,
         _ => draw.from(1, 40) as u32,
     }
+}
+
+/// An instruction that any register's contents suit.
+pub fn harmless(draw: &mut Draw) -> u16 {
+    const CODES: [u16; 10] = [
+        0o022, 0o024, 0o030, 0o031, 0o042, 0o043, 0o044, 0o046, 0o060, 0o074,
+    ];
+    draw.pick(&CODES) << 9 | draw.below(512) as u16
 }
 
 /// The instructions that `fill` makes.

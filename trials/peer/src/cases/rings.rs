@@ -9,7 +9,7 @@
 use super::body::{Body, Manner};
 use super::build::{Draft, Package, Program, IOR, MONITOR};
 use super::draw::Draw;
-use super::parts::{data_field, dump};
+use super::parts::{data_field, dump, harmless};
 
 /// Words of code that each program has room for, and their place.
 const CODE: u32 = 0x100;
@@ -210,19 +210,11 @@ impl Ring {
         }
     }
 
-    /// An instruction that any register's contents suit.
-    fn harmless(&mut self) -> u16 {
-        const CODES: [u16; 10] = [
-            0o022, 0o024, 0o030, 0o031, 0o042, 0o043, 0o044, 0o046, 0o060, 0o074,
-        ];
-        self.draw.pick(&CODES) << 9 | self.draw.below(512) as u16
-    }
-
     /// Stores another parcel into the place that comes next, the last of the
     /// word in which the storing instruction stands.
     fn patch(&mut self, program: &mut Program, base: u32) {
         let gh = self.draw.pick(&[0o035, 0o037, 0o110, 0o130, 0o177]);
-        let (old, new) = (self.harmless(), self.harmless());
+        let (old, new) = (harmless(&mut self.draw), harmless(&mut self.draw));
         let pool = self.kept(0);
         let length = storing(gh, 0, new, pool).len() as u32;
         while (program.here() + length) % 4 != 3 {

@@ -1,9 +1,11 @@
 //! The cells: what stored sheets must show, each with its name.
 
+use super::told::{self, Silence, Tale};
 use crate::codes::{
     by_mode, digits, empty, find, is_branch, is_vector, reference, shift, specials, split,
 };
 use crate::codes::{stores, vectors, Designator, Mode, Operand, Reference, Shift, CODES};
+use crate::machine::Cause;
 use std::fmt;
 
 /// A place in a list of what can happen. A pattern is its place in `CODES`.
@@ -29,6 +31,10 @@ pub enum Cell {
     Same(usize, Designator),
     /// An operand outside: what follows, and the cause.
     Outside(usize, Rule, Cause),
+    /// What is told of the first operand outside.
+    Told(usize, Tale),
+    /// What was told stays, or nothing is told.
+    Silent(Silence),
     /// Words partly outside, and then an exchange; whether the first was outside.
     Partly(usize, bool),
     /// A store into the package that an exchange takes, later or by the same
@@ -58,14 +64,6 @@ pub enum Rule {
     Monitor,
 }
 
-/// The causes of an address outside, in the order of the field's tests.
-#[derive(Clone, Copy, PartialEq, Eq, Hash, Debug)]
-pub enum Cause {
-    Below,
-    Limit,
-    Memory,
-}
-
 #[derive(Clone, Copy, PartialEq, Eq, Hash, Debug)]
 pub enum End {
     Budget,
@@ -76,10 +74,10 @@ pub enum End {
 /// A count for a shift that is over all counts which have their own cell.
 pub const WIDE: u32 = 129;
 const COUNTS: [u32; 8] = [0, 1, 63, 64, 65, 127, 128, WIDE];
-const CAUSES: [Cause; 3] = [Cause::Below, Cause::Limit, Cause::Memory];
-const RULES: [Rule; 3] = [Rule::Interrupted, Rule::User, Rule::Monitor];
+pub const CAUSES: [Cause; 3] = [Cause::Below, Cause::Limit, Cause::Memory];
+pub const RULES: [Rule; 3] = [Rule::Interrupted, Rule::User, Rule::Monitor];
 const ENDS: [End; 3] = [End::Budget, End::NotHeld, End::MonitorFetch];
-const FLAGS: [u16; 5] = [0, 1, 2, 4, 8];
+pub const FLAGS: [u16; 5] = [0, 1, 2, 4, 8];
 /// The places of i and k among the digits of a parcel.
 const I: usize = 3;
 const K: usize = 5;
@@ -119,20 +117,29 @@ pub fn all() -> Vec<Cell> {
         of_code(n, &mut cells);
     }
     cells.extend((1..=64).map(Cell::AnyLength));
-    for monitor in [false, true] {
-        for cause in CAUSES {
-            cells.push(Cell::Fetch(false, monitor, cause));
-            // The first parcel is inside, so the sum for a second cannot wrap.
-            if cause != Cause::Below {
-                cells.push(Cell::Fetch(true, monitor, cause));
-            }
-        }
-    }
+    let fetches = fetches().into_iter();
+    cells.extend(fetches.map(|(second, mode, cause)| Cell::Fetch(second, mode, cause)));
+    cells.extend(told::silences().into_iter().map(Cell::Silent));
     cells.extend(FLAGS.map(Cell::Flags));
     cells.extend(ENDS.map(Cell::End));
     cells.extend((0..128).filter(|gh| empty(*gh)).map(Cell::NotHeld));
     cells.extend(all_neighbours());
     cells
+}
+
+/// The parcels outside that can be: the second or the first, the mode, the cause.
+pub fn fetches() -> Vec<(bool, bool, Cause)> {
+    let mut fetches = Vec::new();
+    for monitor in [false, true] {
+        for cause in CAUSES {
+            fetches.push((false, monitor, cause));
+            // The first parcel is inside, so the sum for a second cannot wrap.
+            if cause != Cause::Below {
+                fetches.push((true, monitor, cause));
+            }
+        }
+    }
+    fetches
 }
 
 fn of_code(n: usize, cells: &mut Vec<Cell>) {
@@ -167,7 +174,9 @@ fn of_memory(n: usize, cells: &mut Vec<Cell>) {
             cells.extend(CAUSES.map(|cause| Cell::Outside(n, rule, cause)));
         }
     }
-    if let Reference::Row(store) = kind {
+    let tales = told::tales(CODES[n].text).into_iter();
+    cells.extend(tales.map(|tale| Cell::Told(n, tale)));
+    if let Reference::Block(store) | Reference::Vector(store) = kind {
         cells.extend([false, true].map(|first| Cell::Partly(n, first)));
         if store {
             cells.push(Cell::Package(n, true));
@@ -211,6 +220,7 @@ impl Cell {
             Cell::Outside(n, rule, cause) => {
                 (n, format!("outside, {}, {}", rule.name(), cause.name()))
             }
+            Cell::Told(n, tale) => (n, tale.to_string()),
             Cell::Partly(n, first) => {
                 let which = if first { "first" } else { "last" };
                 (n, format!("with the {which} words outside, exchanged"))
@@ -228,7 +238,7 @@ impl Cell {
     }
 }
 
-fn mode(monitor: bool) -> &'static str {
+pub fn mode(monitor: bool) -> &'static str {
     if monitor {
         "monitor mode"
     } else {
@@ -248,6 +258,7 @@ impl fmt::Display for Cell {
                 let (mode, cause) = (mode(monitor), cause.name());
                 write!(out, "{which} parcel outside, {mode}, {cause}")
             }
+            Cell::Silent(silence) => write!(out, "{silence}"),
             Cell::Flags(flags) => write!(out, "exchange with flags {flags}"),
             Cell::End(end) => write!(out, "end by {end:?}"),
             Cell::NotHeld(gh) => write!(out, "{gh:03o}, of which nothing is held"),
@@ -257,7 +268,7 @@ impl fmt::Display for Cell {
 }
 
 impl Rule {
-    fn name(self) -> &'static str {
+    pub fn name(self) -> &'static str {
         match self {
             Rule::Interrupted => "user mode with IOR",
             Rule::User => "user mode without IOR",
@@ -267,7 +278,7 @@ impl Rule {
 }
 
 impl Cause {
-    fn name(self) -> &'static str {
+    pub fn name(self) -> &'static str {
         match self {
             Cause::Below => "below the base",
             Cause::Limit => "at or over the limit",

@@ -10,6 +10,7 @@
 mod cells;
 mod rivals;
 mod sights;
+mod told;
 
 use crate::machine::{run, start, Answer, Ended, Stop};
 use crate::sheet::{memory, read};
@@ -49,10 +50,14 @@ fn shown(mut scene: Scene, done: u64, left: u64) -> Shown {
     let ended = run(&mut scene.state, &mut scene.memory, left);
     let mut ended = ended.unwrap_or(Ended {
         stop: Stop::Budget,
+        outside: None,
         steps: 0,
     });
     ended.steps += done;
-    let Scene { mut state, memory } = scene;
+    ended.outside = ended.outside.or(scene.outside);
+    let Scene {
+        mut state, memory, ..
+    } = scene;
     let hidden = State::clear(0);
     (state.b, state.t, state.v, state.vm) = (hidden.b, hidden.t, hidden.v, hidden.vm);
     Shown {
@@ -82,8 +87,8 @@ impl Watch {
                 let left = self.budget - self.done - 1;
                 scene != *after && shown(scene, self.done + 1, left) != self.truth
             }
-            // The rival stops here, where the sheet did not.
-            Some(_) => true,
+            // The rival stops here, where the sheet did not or tells otherwise.
+            Some((scene, _)) => scene != *after,
         };
         if rivals.iter().all(differs) {
             self.reached.insert(cell);
@@ -103,7 +108,12 @@ impl Cover {
         let Ok(state) = start(&memory, 0, 0) else {
             return;
         };
-        let (scene, budget) = (Scene { state, memory }, sheet.steps.min(MOST));
+        let scene = Scene {
+            state,
+            memory,
+            outside: None,
+        };
+        let budget = sheet.steps.min(MOST);
         let mut watch = Watch {
             truth: shown(scene.clone(), 0, budget),
             budget,
@@ -126,6 +136,7 @@ impl Cover {
             if let Found::Instruction(_, first, _) | Found::NotHeld(first) = found {
                 self.parcels[usize::from(before.state.mm)].insert(first);
             }
+            sights.extend(told::sights(&found, &before, answer));
             sights.extend(stores.sights(&before, answer));
             for sight in sights {
                 watch.look(&before, &scene, first, sight);

@@ -2,14 +2,16 @@
 //! sheet shows a thing if its answer with the rival is another.
 
 use crate::codes::{Designator, File, Operand};
-use crate::machine::{Answer, Machine, OPERAND_RANGE};
+use crate::machine::{Answer, Machine, Outside, OPERAND_RANGE};
 use crate::state::{State, MASK24};
 
-/// A processor and its memory between two steps.
+/// A processor and its memory between two steps, and what the run tells so far
+/// of operands outside.
 #[derive(Clone, PartialEq)]
 pub struct Scene {
     pub state: State,
     pub memory: Vec<u64>,
+    pub outside: Option<Outside>,
 }
 
 /// What might be otherwise.
@@ -37,11 +39,15 @@ pub enum Rival {
     Package(Vec<u64>),
     /// A word of memory is as it was, while the step is made.
     OldWord(usize, u64),
+    /// After the step, this is told so far of operands outside.
+    Told(Option<Outside>),
 }
 
 impl Scene {
     pub fn step(&mut self) -> Answer {
-        Machine::new(&mut self.state, &self.memory).advance(&mut self.memory)
+        let step = Machine::new(&mut self.state, &self.memory).advance(&mut self.memory);
+        self.outside = step.outside.or(self.outside);
+        step.answer
     }
 
     fn exchange(&mut self) -> Answer {
@@ -78,10 +84,7 @@ impl Scene {
                 Answer::Stepped
             }
             Rival::Interrupt(wanted) => self.interrupted(*wanted),
-            Rival::Unmoved => {
-                self.state.p = (self.state.p + 1) & MASK24;
-                self.exchange()
-            }
+            Rival::Unmoved => self.unmoved(),
             Rival::OwnPackage => self.own_package(),
             Rival::Package(words) => {
                 let at = self.state.xa as usize * 16;
@@ -89,6 +92,11 @@ impl Scene {
                 self.step()
             }
             Rival::OldWord(at, word) => self.old_word(*at, *word),
+            Rival::Told(outside) => {
+                let answer = self.step();
+                self.outside = *outside;
+                answer
+            }
         };
         Some((self, answer))
     }
@@ -154,6 +162,15 @@ impl Scene {
             (self.state.mm, self.state.ior) = modes;
         }
         answer
+    }
+
+    /// The exchange alone; what the step tells is told.
+    fn unmoved(&mut self) -> Answer {
+        let mut moved = self.clone();
+        moved.step();
+        self.outside = moved.outside;
+        self.state.p = (self.state.p + 1) & MASK24;
+        self.exchange()
     }
 
     /// The words are stored, but the exchange takes the package as it was.

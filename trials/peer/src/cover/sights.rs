@@ -1,13 +1,13 @@
 //! What there is to see at a step: its cells, each with the rivals that must
 //! answer otherwise.
 
-use super::cells::{neighbours, Cause, Cell, Rule, WIDE};
+use super::cells::{neighbours, Cell, Rule, WIDE};
 use super::rivals::{Rival, Scene};
 use crate::codes::{
     by_mode, empty, find, held, is_branch, is_vector, reference, shift, specials, split,
 };
 use crate::codes::{stores, vectors, Designator, Reference, Shift, CODES};
-use crate::machine::{place, Answer, Place};
+use crate::machine::{place, Answer, Cause};
 use crate::state::{State, MASK24};
 
 pub type Sight = (Cell, Vec<Rival>);
@@ -22,25 +22,11 @@ pub enum Found {
     Instruction(usize, u16, u16),
 }
 
-fn cause(place: Place) -> Option<Cause> {
-    match place {
-        Place::Inside => None,
-        Place::Below => Some(Cause::Below),
-        Place::Limit => Some(Cause::Limit),
-        Place::Memory => Some(Cause::Memory),
-    }
-}
-
 /// The parcel at an address of the instruction field, or why it is outside.
 fn parcel(scene: &Scene, p: u32) -> Result<u16, Cause> {
     let (state, p) = (&scene.state, p & MASK24);
-    match cause(place(state.iba, state.ila, scene.memory.len(), p / 4)) {
-        Some(cause) => Err(cause),
-        None => {
-            let word = scene.memory[(state.iba * 32 + p / 4) as usize];
-            Ok((word >> (48 - 16 * (p % 4))) as u16)
-        }
-    }
+    let at = place(state.iba, state.ila, scene.memory.len(), p / 4)?;
+    Ok((scene.memory[at] >> (48 - 16 * (p % 4))) as u16)
 }
 
 pub fn found(scene: &Scene) -> Found {
@@ -166,7 +152,7 @@ fn shifted(state: &State, code: usize, first: u16) -> Option<Sight> {
 }
 
 /// The addresses of a memory reference.
-fn addresses(state: &State, code: usize, first: u16, second: u16) -> Vec<u32> {
+pub fn addresses(state: &State, code: usize, first: u16, second: u16) -> Vec<u32> {
     let register = |at: u16| state.a[usize::from(first >> at & 7)];
     let special = |at: u16, zero: u32| match first >> at & 7 {
         0 => zero,
@@ -182,24 +168,33 @@ fn addresses(state: &State, code: usize, first: u16, second: u16) -> Vec<u32> {
             let jkm = u32::from(first & 0o77) << 16 | u32::from(second);
             vec![special(9, 0) + jkm]
         }
-        Reference::Row(_) if first >> 9 < 0o100 => row(register(6) & 127, 1),
-        Reference::Row(_) => row(state.vl, special(0, 1)),
+        Reference::Block(_) => row(register(6) & 127, 1),
+        Reference::Vector(_) => row(state.vl, special(0, 1)),
+    }
+}
+
+/// Why each address of the data field is outside, if it is.
+pub fn causes(scene: &Scene, addresses: &[u32]) -> Vec<Option<Cause>> {
+    let (state, length) = (&scene.state, scene.memory.len());
+    let places = addresses
+        .iter()
+        .map(|address| place(state.dba, state.dla, length, *address));
+    places.map(Result::err).collect()
+}
+
+/// What follows an operand outside.
+pub fn rule(state: &State) -> Rule {
+    match (state.mm, state.ior) {
+        (true, _) => Rule::Monitor,
+        (false, true) => Rule::Interrupted,
+        (false, false) => Rule::User,
     }
 }
 
 /// The cells of operands outside.
 fn referring(scene: &Scene, code: usize, first: u16, second: u16) -> Vec<Sight> {
-    let (state, length) = (&scene.state, scene.memory.len());
-    let addresses = addresses(state, code, first, second);
-    let causes = addresses
-        .iter()
-        .map(|address| cause(place(state.dba, state.dla, length, *address)));
-    let causes: Vec<Option<Cause>> = causes.collect();
-    let rule = match (state.mm, state.ior) {
-        (true, _) => Rule::Monitor,
-        (false, true) => Rule::Interrupted,
-        (false, false) => Rule::User,
-    };
+    let addresses = addresses(&scene.state, code, first, second);
+    let (causes, rule) = (causes(scene, &addresses), rule(&scene.state));
     let interrupt = Rival::Interrupt(rule != Rule::Interrupted);
     let mut sights: Vec<Sight> = Vec::new();
     for cause in causes.iter().flatten() {
