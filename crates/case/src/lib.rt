@@ -2,6 +2,7 @@
 ghost use mathlib.Core.Path.{_≡_};
 ghost use Prim.Native.Nat.{_≤_};
 ghost use lib.ListN.{length};
+ghost use Rattle.machine.specs.declared.Stray.the-variants.{Clean};
 ghost use Rattle.machine.specs.State.{sharing};
 ghost use Rattle.machine.specs.Run.{startOf, ended, runOf};
 ghost use Rattle.machine.specs.Layout.{stateOf};
@@ -13,8 +14,8 @@ use turns::run::Ran;
 // Starts processor 0 from package 0, and runs it.
 fn run_package(r: &mut [u64; 672], mem: &mut [u64], steps: u64) -> Ran
     requires { ⌜ (length (now mem) ≡ 4096) × (steps ≤ 1000000) ⌝ }
-    ensures { λ o. ⌜ ended (o .ending) (o .steps) (stateOf (now (r .exit))) (sharing (now (mem .exit)))
-        ≡ runOf steps 0 (startOf (now (mem .entry)) 0 0) (sharing (now (mem .entry))) ⌝ }
+    ensures { λ o. ⌜ ended (o .ending) (o .stray) (o .steps) (stateOf (now (r .exit))) (sharing (now (mem .exit)))
+        ≡ runOf steps Clean 0 (startOf (now (mem .entry)) 0 0) (sharing (now (mem .entry))) ⌝ }
 {
     xmp::start(r, mem, 0, 0);
     xmp::run(r, mem, steps)

@@ -4,13 +4,15 @@ use mathlib.Core.Path.{_≡_, refl}
 use mathlib.Core.List.{List, [], _∷_, _++_}
 use Prim.Native.Nat.{ℕ}
 use Rattle.machine.specs.declared.Ending.the-variants.{Budget}
+use Rattle.machine.specs.declared.Cause.the-variants.{BelowBase, OverLimit, BeyondMemory}
+use Rattle.machine.specs.declared.Stray.the-variants.{Clean, First}
 use Rattle.machine.specs.State.{State, addr}
 use Rattle.machine.specs.Run.{zeros}
 use Rattle.text.specs.Names.{nameSteps, nameChanged}
 use Rattle.text.specs.Digits.{isDecimal, isLetter, isHex, hexOf, allHex, hexFrom, glyphOf, digits, placesOf, widthOf, shown}
 use Rattle.text.specs.Sheet.{startsAt, endsAt, decimalFrom, numberAt, upTo, headAt, framed}
 use Rattle.text.specs.Sheet.{wordLine, badLine, afterWords, afterSteps, checkOf, sheetFrom, sheetOf}
-use Rattle.text.specs.Report.{afterCommas, commas, decimalLine, stopLine, controlLines, fieldLines}
+use Rattle.text.specs.Report.{afterCommas, commas, decimalLine, stopLine, causeName, outsideLine, controlLines, fieldLines}
 use Rattle.text.specs.Report.{programLines, registerLines, stateLines, change, changeText}
 use Rattle.text.specs.declared.Sheet.the-variants.{Good, Bad}
 
@@ -65,6 +67,8 @@ abbrev printed : List ℕ
 printed =
     -- stop=budget
     115 ∷ 116 ∷ 111 ∷ 112 ∷ 61 ∷ 98 ∷ 117 ∷ 100 ∷ 103 ∷ 101 ∷ 116 ∷ 10
+    -- outside=none
+    ∷ 111 ∷ 117 ∷ 116 ∷ 115 ∷ 105 ∷ 100 ∷ 101 ∷ 61 ∷ 110 ∷ 111 ∷ 110 ∷ 101 ∷ 10
     -- steps=4
     ∷ 115 ∷ 116 ∷ 101 ∷ 112 ∷ 115 ∷ 61 ∷ 52 ∷ 10
     -- p=000005
@@ -94,9 +98,24 @@ printed =
     ∷ 115 ∷ 61 ∷ 48 ∷ 44 ∷ 48 ∷ 44 ∷ 48 ∷ 44 ∷ 48 ∷ 44 ∷ 48 ∷ 44 ∷ 48 ∷ 44 ∷ 48 ∷ 44 ∷ 48 ∷ 10
     ∷ []
 
-reported : stopLine Budget ++ decimalLine nameSteps 4 ++ stateLines end ≡ printed
-unfolding glyphOf digits placesOf widthOf shown afterCommas commas stopLine controlLines fieldLines programLines registerLines stateLines zeros
+reported : stopLine Budget ++ outsideLine Clean ++ decimalLine nameSteps 4 ++ stateLines end ≡ printed
+unfolding glyphOf digits placesOf widthOf shown afterCommas commas stopLine outsideLine controlLines fieldLines programLines registerLines stateLines zeros
 reported = refl
+
+-- outside=below,0
+outside-below : outsideLine (First BelowBase 0) ≡ 111 ∷ 117 ∷ 116 ∷ 115 ∷ 105 ∷ 100 ∷ 101 ∷ 61 ∷ 98 ∷ 101 ∷ 108 ∷ 111 ∷ 119 ∷ 44 ∷ 48 ∷ 10 ∷ []
+unfolding glyphOf digits placesOf widthOf shown causeName outsideLine
+outside-below = refl
+
+-- outside=limit,63
+outside-limit : outsideLine (First OverLimit 63) ≡ 111 ∷ 117 ∷ 116 ∷ 115 ∷ 105 ∷ 100 ∷ 101 ∷ 61 ∷ 108 ∷ 105 ∷ 109 ∷ 105 ∷ 116 ∷ 44 ∷ 54 ∷ 51 ∷ 10 ∷ []
+unfolding glyphOf digits placesOf widthOf shown causeName outsideLine
+outside-limit = refl
+
+-- outside=memory,10
+outside-memory : outsideLine (First BeyondMemory 10) ≡ 111 ∷ 117 ∷ 116 ∷ 115 ∷ 105 ∷ 100 ∷ 101 ∷ 61 ∷ 109 ∷ 101 ∷ 109 ∷ 111 ∷ 114 ∷ 121 ∷ 44 ∷ 49 ∷ 48 ∷ 10 ∷ []
+unfolding glyphOf digits placesOf widthOf shown causeName outsideLine
+outside-memory = refl
 
 abbrev changedWord : List ℕ
 changedWord =

@@ -4,6 +4,7 @@ use Prim.Native.Nat.{ℕ}
 use mathlib.Core.Path.{_≡_, sym, _∙_}
 use mathlib.Core.List.{List}
 use Rattle.machine.specs.declared.Ending.{Ending}
+use Rattle.machine.specs.declared.Stray.{Stray}
 use Rattle.machine.specs.State.{State}
 use Rattle.text.specs.declared.Sheet.{Sheet}
 use Rattle.text.specs.Sheet.{sheetOf, memoryOf}
@@ -17,10 +18,10 @@ pub read-unique : (text mem after after′ : List ℕ) (r r′ : Sheet) → (r �
     → (r′ ≡ sheetOf text) × (after′ ≡ memoryOf text mem) → (r ≡ r′) × (after ≡ after′)
 read-unique text mem after after′ r r′ h h′ = (h .0 ∙ sym (h′ .0), h .1 ∙ sym (h′ .1))
 
-pub report-unique : (ending : Ending) (steps : ℕ) (st : State) (before after out out′ out″ : List ℕ) (n n′ : ℕ)
-    → Wrote out 0 (reportOf ending steps st before after) out′ n → Wrote out 0 (reportOf ending steps st before after) out″ n′
+pub report-unique : (ending : Ending) (stray : Stray) (steps : ℕ) (st : State) (before after out out′ out″ : List ℕ) (n n′ : ℕ)
+    → Wrote out 0 (reportOf ending stray steps st before after) out′ n → Wrote out 0 (reportOf ending stray steps st before after) out″ n′
     → (out′ ≡ out″) × (n ≡ n′)
-report-unique ending steps st before after out out′ out″ n n′ = wrote-unique out 0 _ out′ out″ n n′
+report-unique ending stray steps st before after out out′ out″ n n′ = wrote-unique out 0 _ out′ out″ n n′
 
 pub refused-unique : (line : ℕ) (out out′ out″ : List ℕ) (n n′ : ℕ) → Wrote out 0 (refusedOf line) out′ n → Wrote out 0 (refusedOf line) out″ n′
     → (out′ ≡ out″) × (n ≡ n′)

@@ -74,6 +74,22 @@ stopNotHeld = 115 ∷ 116 ∷ 111 ∷ 112 ∷ 61 ∷ 110 ∷ 111 ∷ 116 ∷ 45 
 abbrev pub stopMonitorFetch : List ℕ
 stopMonitorFetch = 115 ∷ 116 ∷ 111 ∷ 112 ∷ 61 ∷ 109 ∷ 111 ∷ 110 ∷ 105 ∷ 116 ∷ 111 ∷ 114 ∷ 45 ∷ 102 ∷ 101 ∷ 116 ∷ 99 ∷ 104 ∷ 10 ∷ []
 
+-- `outside=none`, a newline
+abbrev pub outsideNone : List ℕ
+outsideNone = 111 ∷ 117 ∷ 116 ∷ 115 ∷ 105 ∷ 100 ∷ 101 ∷ 61 ∷ 110 ∷ 111 ∷ 110 ∷ 101 ∷ 10 ∷ []
+
+-- `outside=below,`
+abbrev pub nameBelow : List ℕ
+nameBelow = 111 ∷ 117 ∷ 116 ∷ 115 ∷ 105 ∷ 100 ∷ 101 ∷ 61 ∷ 98 ∷ 101 ∷ 108 ∷ 111 ∷ 119 ∷ 44 ∷ []
+
+-- `outside=limit,`
+abbrev pub nameOver : List ℕ
+nameOver = 111 ∷ 117 ∷ 116 ∷ 115 ∷ 105 ∷ 100 ∷ 101 ∷ 61 ∷ 108 ∷ 105 ∷ 109 ∷ 105 ∷ 116 ∷ 44 ∷ []
+
+-- `outside=memory,`
+abbrev pub nameBeyond : List ℕ
+nameBeyond = 111 ∷ 117 ∷ 116 ∷ 115 ∷ 105 ∷ 100 ∷ 101 ∷ 61 ∷ 109 ∷ 101 ∷ 109 ∷ 111 ∷ 114 ∷ 121 ∷ 44 ∷ []
+
 -- `refused=`
 abbrev pub nameRefused : List ℕ
 nameRefused = 114 ∷ 101 ∷ 102 ∷ 117 ∷ 115 ∷ 101 ∷ 100 ∷ 61 ∷ []

@@ -7,10 +7,15 @@ use lib.Seq.{sets}
 use lib.Dec.{eqb, ltb}
 use Rattle.machine.specs.declared.Ending.{Ending}
 use Rattle.machine.specs.declared.Ending.the-variants.{Budget, NotHeld, MonitorFetch, Refused}
+use Rattle.machine.specs.declared.Cause.{Cause}
+use Rattle.machine.specs.declared.Cause.the-variants.{BelowBase, OverLimit, BeyondMemory}
+use Rattle.machine.specs.declared.Stray.{Stray}
+use Rattle.machine.specs.declared.Stray.the-variants.{Clean, First}
 use Rattle.machine.specs.Word.{pick}
 use Rattle.machine.specs.State.{Registers, Frame, State}
 use Rattle.text.specs.Names.{nameSteps, nameP, nameXA, nameVL, nameModes, nameIBA, nameILA, nameDBA, nameDLA, namePS, nameCLN}
 use Rattle.text.specs.Names.{nameA, nameS, nameChanged, stopBudget, stopNotHeld, stopMonitorFetch, nameRefused, nameLine, equals, comma, newline}
+use Rattle.text.specs.Names.{outsideNone, nameBelow, nameOver, nameBeyond}
 use Rattle.text.specs.Digits.{shown}
 use Rattle.text.specs.Sheet.{sheetRefusal}
 
@@ -31,6 +36,16 @@ stopLine Budget = stopBudget
 stopLine (NotHeld p) = stopNotHeld
 stopLine (MonitorFetch p) = stopMonitorFetch
 stopLine (Refused n) = stopBudget
+
+-- `outside=`: `none`, or why an operand of the last step that had such a one lay outside, and its element
+unfoldable pub causeName : Cause → List ℕ
+causeName BelowBase = nameBelow
+causeName OverLimit = nameOver
+causeName BeyondMemory = nameBeyond
+
+unfoldable pub outsideLine : Stray → List ℕ
+outsideLine Clean = outsideNone
+outsideLine (First cause e) = decimalLine (causeName cause) e
 
 -- MM as 1, IOR 2, IFP 4, FPS 8, BDM 10 in hex
 abbrev pub modesOf : Registers → Frame → ℕ
@@ -97,10 +112,11 @@ unfoldable pub changedLines : List ℕ → List ℕ → List ℕ
 changedLines before after =
     decimalLine nameChanged (changes (comparedOf before after) 0 before after) ++ changedWords (comparedOf before after) 0 before after
 
--- the report of a run: how it ended, its steps, the processor at its end, and memory before and after it
-unfoldable pub reportOf : Ending → ℕ → State → List ℕ → List ℕ → List ℕ
-reportOf ending steps st before after =
+-- the report of a run: how it ended, its stray, its steps, the processor at its end, and memory before and after it
+unfoldable pub reportOf : Ending → Stray → ℕ → State → List ℕ → List ℕ → List ℕ
+reportOf ending stray steps st before after =
     stopLine ending
+    ++ outsideLine stray
     ++ decimalLine nameSteps steps
     ++ stateLines st
     ++ changedLines before after

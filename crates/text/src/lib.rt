@@ -7,7 +7,8 @@ ghost use Rattle.machine.specs.Layout.{registersOf, frameOf, stateOf};
 ghost use Rattle.text.specs.Digits.{byteAt, isDecimal, isLetter, isHex, hexOf, hexFrom, glyphOf, digits, placesOf, shown};
 ghost use Rattle.text.specs.Sheet.{startsAt, endsAt, decimalFrom, numberAt, headAt, framed, badLine, stored, checkOf, sheetOf, sheetNumbers, memoryOf};
 ghost use Rattle.text.specs.Bounds.{HeadFits, CheckedFits, SheetFits};
-ghost use Rattle.text.specs.Report.{lineOf, commas, stopLine, modesOf, controlLines, fieldLines, programLines, registerLines};
+ghost use Rattle.text.specs.Report.{lineOf, commas, stopLine, causeName, outsideLine, modesOf};
+ghost use Rattle.text.specs.Report.{controlLines, fieldLines, programLines, registerLines};
 ghost use Rattle.text.specs.Report.{stateLines, smaller, comparedOf, change, changes, changeText, changedWords, changedLines};
 ghost use Rattle.text.specs.Report.{reportOf, refusedOf, Wrote};
 use machine::Cause;
@@ -429,6 +430,8 @@ fn put_stop(out: &mut [u8], ending: Ending) -> usize
 
 // Why an operand lay outside, and its number among those of its instruction.
 fn put_stray(out: &mut [u8], at: usize, cause: Cause, element: u64) -> usize
+    requires { ⌜ at ≤ 1000 ⌝ }
+    ensures { λ r. ⌜ Wrote (now (out .entry)) at (lineOf (causeName cause) (shown 10 1 element)) (now (out .exit)) r × (r ≤ at + 136) ⌝ }
 {
     match cause {
         Cause::BelowBase => put_line(out, at, b"outside=below,", element, 10, 1),
@@ -439,6 +442,8 @@ fn put_stray(out: &mut [u8], at: usize, cause: Cause, element: u64) -> usize
 
 // The stray of the last step that had one.
 fn put_outside(out: &mut [u8], at: usize, stray: Stray) -> usize
+    requires { ⌜ at ≤ 1000 ⌝ }
+    ensures { λ r. ⌜ Wrote (now (out .entry)) at (outsideLine stray) (now (out .exit)) r × (r ≤ at + 136) ⌝ }
 {
     match stray {
         Stray::Clean => put_text(out, at, b"outside=none\n"),
@@ -581,7 +586,7 @@ fn put_changed(out: &mut [u8], at: usize, before: &[u64], after: &[u64]) -> usiz
 }
 
 // Writes the report of a run at the start of out, as much of it as fits, and answers its whole length: how the run ended, its
-// steps, the processor's words, and memory before and after.
+// stray, its steps, the processor's words, and memory before and after.
 pub fn report(
     ending: Ending,
     stray: Stray,
@@ -592,7 +597,7 @@ pub fn report(
     out: &mut [u8],
 ) -> usize
     ensures { λ n. ⌜ Wrote (now (out .entry)) 0
-        (reportOf ending steps (stateOf (now (r .entry))) (now (before .entry)) (now (after .entry))) (now (out .exit)) n ⌝ }
+        (reportOf ending stray steps (stateOf (now (r .entry))) (now (before .entry)) (now (after .entry))) (now (out .exit)) n ⌝ }
     ensures { λ n. ⌜ (length (now (before .entry)) ≤ 65536 → n ≤ 8192 + 22 * length (now (before .entry))) ⌝ }
 {
     let second = put_stop(out, ending);

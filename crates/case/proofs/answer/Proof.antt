@@ -21,7 +21,7 @@ returns c =
     let read = c .before .before .before .before .before .before .before .before .before .before .before .before .before .before .read in
     let start = c .before .before .before .before .before .before .before .before .before .before .before .before .before .before .before
     .before .before .before in (
-      rw (← good-answer (start .args .sheet .now) _ _ _ _ _ _ (sym (read .ensures .0) ∙ steps .given .1) (read .ensures .1 .0)
+      rw (← good-answer (start .args .sheet .now) _ _ _ _ _ _ _ (sym (read .ensures .0) ∙ steps .given .1) (read .ensures .1 .0)
           (run-package .ensures)) (c .before .before .report .ensures .0),
       omega (arith, c .before .before .report .ensures .1 (omega arith)),
     )
