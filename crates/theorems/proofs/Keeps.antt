@@ -90,7 +90,8 @@ ranged-only fr r p s sh =
     picked (λ (o : Out). Only (Package (r .xa)) (sh .mem) (o .shared .mem)) (user fr && eqb (r .ior) 1)
     (save-only fr r p _ (r .xa) (sh .mem)) (itself (sh .mem))
 
-finish-only : (st : State) (w : Work) (s : Stray) (r : Registers) (sh : Shared) (x : ℕ) → (Ends w → r .xa ≡ x) → Only (Package x) (sh .mem) (finish st w s r sh .shared .mem)
+finish-only : (st : State) (w : Work) (s : Stray) (r : Registers) (sh : Shared) (x : ℕ) → (Ends w → r .xa ≡ x)
+    → Only (Package x) (sh .mem) (finish st w s r sh .shared .mem)
 unfolding finish exchange
 finish-only st PastOne s r sh x e = itself (sh .mem)
 finish-only st PastTwo s r sh x e = itself (sh .mem)

@@ -12,7 +12,7 @@ use Rattle.machine.specs.declared.Last.{Last}
 use Rattle.machine.specs.declared.Last.the-variants as last
 use Rattle.machine.specs.State.{Frame, State, Shared, sharing}
 use Rattle.machine.specs.Memory.{Field, dataField}
-use Rattle.machine.specs.Step.{Out, stepOf}
+use Rattle.machine.specs.Step.{stepOf}
 use Rattle.machine.specs.Run.{zeros, Half, half, halfAfter, PairEnded, pairOf}
 use Rattle.theorems.proofs.Counted.{sharedAfter}
 use Rattle.theorems.specs.Statement.{In, Own, Neither, Agree, Apart, firsts, seconds, oneBytes, together, Smooth, AsAlone, Demand3}
@@ -22,15 +22,17 @@ use Rattle.theorems.proofs.Walk.{Steps, SameWalk, walk-same, later, lat
 
 -- a pair run goes on after a step that stepped
 module _ (bytes : List ℕ) (l : Last) (d : ℕ) (x y : Half) (sh : Shared) where
-  turn-first : (o : Out) → stepOf (x .state) sh ≡ o → o .answer ≡ Stepped
-      → pairOf (zero ∷ bytes) l d x y sh ≡ pairOf bytes (last.Was Stepped) (d + 1) (halfAfter x o) y (o .shared)
+  turn-first : stepOf (x .state) sh .answer ≡ Stepped
+      → pairOf (zero ∷ bytes) l d x y sh
+      ≡ pairOf bytes (last.Was Stepped) (d + 1) (halfAfter x (stepOf (x .state) sh)) y (stepOf (x .state) sh .shared)
   unfolding pairOf
-  turn-first o q e = rw (q, e)
+  turn-first e = rw e
 
-  turn-second : (b : ℕ) (o : Out) → stepOf (y .state) sh ≡ o → o .answer ≡ Stepped
-      → pairOf (suc b ∷ bytes) l d x y sh ≡ pairOf bytes (last.Was Stepped) (d + 1) x (halfAfter y o) (o .shared)
+  turn-second : (b : ℕ) → stepOf (y .state) sh .answer ≡ Stepped
+      → pairOf (suc b ∷ bytes) l d x y sh
+      ≡ pairOf bytes (last.Was Stepped) (d + 1) x (halfAfter y (stepOf (y .state) sh)) (stepOf (y .state) sh .shared)
   unfolding pairOf
-  turn-second b o q e = rw (q, e)
+  turn-second b e = rw e
 
 -- the last answer after n steps
 abbrev lastOf : Last → ℕ → Last
@@ -98,7 +100,7 @@ module _ (fr gr : Frame) (len : ℕ) (apart : Apart fr gr len) where
   unfolding Claim firsts seconds
   by-first bytes ih l d x y sh e g n s =
       let o = stepOf (x .state) sh in
-      let t = turn-first bytes l d x y sh o refl (s .0) in
+      let t = turn-first bytes l d x y sh (s .0) in
       let k = moves fr (x .state) len sh e n (s .0) in
       let n' = k .long ∙ n in
       let u = ih (last.Was Stepped) (d + 1) (halfAfter x o) y (o .shared) (step-frame (x .state) sh (s .0) ∙ e) g n' (s .1) in
@@ -119,7 +121,7 @@ module _ (fr gr : Frame) (len : ℕ) (apart : Apart fr gr len) where
   unfolding Claim firsts seconds
   by-second b bytes ih l d x y sh e g n s =
       let o = stepOf (y .state) sh in
-      let t = turn-second bytes l d x y sh b o refl (s .0) in
+      let t = turn-second bytes l d x y sh b (s .0) in
       let k = moves gr (y .state) len sh g n (s .0) in
       let n' = k .long ∙ n in
       let u = ih (last.Was Stepped) (d + 1) x (halfAfter y o) (o .shared) e (step-frame (y .state) sh (s .0) ∙ g) n' (s .1) in

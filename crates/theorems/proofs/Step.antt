@@ -150,24 +150,20 @@ unfolding stepOf finishOf
 step-next x sh e = finish-next x (workAt x sh .work) (workAt x sh .stray) (workAt x sh .registers) (workAt x sh .shared) e
 
 -- from what is shared as sh' too, where the work ends alike
-step-work : (x : State) (sh sh' : Shared) (n : Next x sh) {P : ℕ → Type 0} → Same P (workAt x sh) (workAt x sh')
+step-work : (x : State) (sh sh' : Shared) (n : Next x sh) → workAt x sh .work ≡ workAt x sh' .work
+    → workAt x sh .stray ≡ workAt x sh' .stray → workAt x sh .registers ≡ workAt x sh' .registers
     → stepOf x sh' ≡ stepped (x .frame) (workAt x sh .registers) (n .0) (workAt x sh .stray) (workAt x sh' .shared)
 unfolding stepOf finishOf
-step-work x sh sh' n s = rw (← (s .work), ← (s .stray), ← (s .registers)) (n .1 (workAt x sh' .shared))
+step-work x sh sh' n w s r = rw (← w, ← s, ← r) (n .1 (workAt x sh' .shared))
 
 -- so it keeps its frame, and changes only words of the data field
-step-itself : (x : State) (sh : Shared) (n : Next x sh)
-    → stepOf x sh ≡ stepped (x .frame) (workAt x sh .registers) (n .0) (workAt x sh .stray) (workAt x sh .shared)
-unfolding stepOf finishOf
-step-itself x sh n = n .1 (workAt x sh .shared)
-
 pub step-frame : (x : State) (sh : Shared) → stepOf x sh .answer ≡ Stepped → stepOf x sh .state .frame ≡ x .frame
-step-frame x sh e = rw (step-itself x sh (step-next x sh e))
+step-frame x sh e = rw (step-work x sh sh (step-next x sh e) refl refl refl)
 
 pub step-only : (x : State) (len : ℕ) (sh : Shared) → length (sh .mem) ≡ len → stepOf x sh .answer ≡ Stepped
     → Only (In (dataField (x .frame)) len) (sh .mem) (stepOf x sh .shared .mem)
 step-only x len sh l e =
-    rw (step-itself x sh (step-next x sh e)) (work-only (x .frame) (x .registers) (x .p .0) len sh l)
+    rw (step-work x sh sh (step-next x sh e) refl refl refl) (work-only (x .frame) (x .registers) (x .p .0) len sh l)
 
 -- and it is the same step in a memory that agrees on its fields, and perhaps on more
 pub record SameStep (P : ℕ → Type 0) (x : State) (sh sh' : Shared) : Type 0 where
@@ -181,6 +177,6 @@ pub step-same : (P : ℕ → Type 0) (x : State) (len : ℕ) (sh sh' : Shared) �
 step-same P x len sh sh' own l h e =
     let n = step-next x sh e in
     let s = work-same (x .frame) (x .registers) P len own sh sh' l h (x .p .0) in
-    let t = step-itself x sh n in
-    let t' = step-work x sh sh' n s in
+    let t = step-work x sh sh n refl refl refl in
+    let t' = step-work x sh sh' n (s .work) (s .stray) (s .registers) in
     record { answer = rw t'; stray = rw (t, t'); state = rw (t, t'); mem = rw (t, t') (s .mem) }
