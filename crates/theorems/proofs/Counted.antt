@@ -54,7 +54,7 @@ counts-none (NotHeld p) e = refl
 counts-none (MonitorFetch p) e = refl
 
 -- a run whose first step does not stop, and one whose first step does
-run-on : (b : ℕ) (s : Stray) (n : ℕ) (st : State) (sh : Shared) → stops (stepOf st sh .answer) ≡ false
+pub run-on : (b : ℕ) (s : Stray) (n : ℕ) (st : State) (sh : Shared) → stops (stepOf st sh .answer) ≡ false
     → runOf (suc b) s n st sh ≡ runOf b (orElse (stepOf st sh .stray) s) (n + 1) (stepOf st sh .state) (stepOf st sh .shared)
 unfolding runOf
 run-on b s n st sh e = rw (e, counts (stepOf st sh .answer) e)

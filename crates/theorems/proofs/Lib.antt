@@ -6,6 +6,7 @@ pub mod Program
 pub mod Wrong
 pub mod Calls
 pub mod Words
+pub mod Outside
 pub mod Agree
 pub mod Step
 pub mod Walk
