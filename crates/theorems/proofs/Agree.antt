@@ -1,23 +1,18 @@
 -- What a read depends on and what a store changes, where P is any set of words. Assumes nothing.
-use Prim.Native.Nat.{ℕ, zero, suc, _*_, _<_}
+use Prim.Native.Nat.{ℕ, zero, suc, _<_}
 use mathlib.Core.Path.{_≡_, refl, sym, _∙_}
-use mathlib.Core.Bool.{Bool, true, false}
 use mathlib.Core.List.{List}
 use native.Mathlib.Omega.{arith}
 use native.Mathlib.Decide.{ℕ-discrete, decLt}
 use lib.ListN.{length, getD, set, length-set}
 use lib.Seq.{getD-set-same, getD-set-other, set-out}
-use lib.Dec.{leb, ltb}
-use borrow.Author.Tests.{ltb-false, leb-false}
-use Rattle.machine.specs.declared.Cause.the-variants.{BelowBase, OverLimit, BeyondMemory}
 use Rattle.machine.specs.declared.Place.{Place}
 use Rattle.machine.specs.declared.Place.the-variants.{Inside, Outside}
-use Rattle.machine.specs.Word.{pick}
 use Rattle.machine.specs.Parcel.{wordOf}
 use Rattle.machine.specs.State.{Frame}
-use Rattle.machine.specs.Memory.{Field, codeField, sumOf, placeOf, loadAt, storeAt, load, store, stores, parcelAt, fetchOf}
-use Rattle.theorems.proofs.Answers.{distinct}
+use Rattle.machine.specs.Memory.{Field, codeField, placeOf, loadAt, storeAt, load, store, stores, parcelAt, fetchOf}
 use Rattle.theorems.specs.Statement.{In, Agree}
+use Rattle.theorems.proofs.Outside.{cause-first}
 
 -- only words of Q differ
 abbrev pub Only : (ℕ → Type 0) → List ℕ → List ℕ → Type 0
@@ -42,20 +37,7 @@ module _ {P : ℕ → Type 0} where
 
 -- a place that is found is a word of the field
 pub place-in : (f : Field) (len a n : ℕ) → placeOf f len a ≡ Inside n → In f len n
-unfolding placeOf
-place-in f len a n e = go (ltb q (f .base * 32)) (leb (f .limit * 32) q) (leb len q) refl refl refl e
-  where
-    q : ℕ
-    q = sumOf f a
-
-    go : (s t u : Bool) → ltb q (f .base * 32) ≡ s → leb (f .limit * 32) q ≡ t → leb len q ≡ u
-        → pick s (Outside BelowBase) (pick t (Outside OverLimit) (pick u (Outside BeyondMemory) (Inside q))) ≡ Inside n → In f len n
-    go true t u b l o h = absurd (distinct (cc))
-    go false true u b l o h = absurd (distinct (cc))
-    go false false true b l o h = absurd (distinct (cc))
-    go false false false b l o h =
-        let z : q ≡ n = cc in
-        rw (← z) (ltb-false q (f .base * 32) b, leb-false (f .limit * 32) q l, leb-false len q o)
+place-in f len a n e = cause-first f len a (Inside n) .0 e .1
 
 -- a word read, and a parcel fetched, depend on the words of the field alone
 pub load-agree : (f : Field) (len : ℕ) (m m' : List ℕ) (a : ℕ) → length m ≡ len → Agree (In f len) m m' → load f m a ≡ load f m' a

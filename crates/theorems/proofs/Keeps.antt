@@ -45,23 +45,23 @@ Ends ProgramRange = Unit {0}
 Ends NotHeld = Unit {0}
 Ends MonitorFetch = Unit {0}
 
--- there XA is as it was: 0013j0, which sets it, goes on, and what is read from memory goes elsewhere
-apply-xa : (u : Put) (r : Registers) → Filed u → apply u r .xa ≡ r .xa
+-- there XA is as it was: 0013j0, which sets it, goes on, and what is read from memory goes elsewhere; it does not set IOR either
+pub apply-filed : (u : Put) (r : Registers) → Filed u → (apply u r .xa ≡ r .xa) × (apply u r .ior ≡ r .ior)
 unfolding apply
-apply-xa Nothing r h = refl
-apply-xa (ToA i x) r h = refl
-apply-xa (ToS i x) r h = refl
-apply-xa (ToB jk x) r h = refl
-apply-xa (ToT jk x) r h = refl
-apply-xa (ToBs first n x) r h = refl
-apply-xa (ToTs first n x) r h = refl
-apply-xa (ToV i x) r h = refl
-apply-xa (ToElement i e x) r h = refl
-apply-xa (ToVL x) r h = refl
-apply-xa (ToVM x) r h = refl
-apply-xa (ToXA x) r h = absurd h
-apply-xa (ToIOR x) r h = refl
-apply-xa (ToBDM x) r h = refl
+apply-filed Nothing r h = (refl, refl)
+apply-filed (ToA i x) r h = (refl, refl)
+apply-filed (ToS i x) r h = (refl, refl)
+apply-filed (ToB jk x) r h = (refl, refl)
+apply-filed (ToT jk x) r h = (refl, refl)
+apply-filed (ToBs first n x) r h = (refl, refl)
+apply-filed (ToTs first n x) r h = (refl, refl)
+apply-filed (ToV i x) r h = (refl, refl)
+apply-filed (ToElement i e x) r h = (refl, refl)
+apply-filed (ToVL x) r h = (refl, refl)
+apply-filed (ToVM x) r h = (refl, refl)
+apply-filed (ToXA x) r h = absurd h
+apply-filed (ToIOR x) r h = absurd h
+apply-filed (ToBDM x) r h = (refl, refl)
 
 perform-xa : (fr : Frame) (r : Registers) (parcels : ℕ) (sh : Shared) (a : Act) → ActOk ⊥ a → Ends (perform fr r parcels sh a .work)
     → perform fr r parcels sh a .registers .xa ≡ r .xa
@@ -70,7 +70,7 @@ perform-xa fr r parcels sh (Does put) h e = absurd (picked (λ w. Ends w → ⊥
 perform-xa fr r parcels sh (Goes q put) h e = absurd e
 perform-xa fr r parcels sh (Reads n at put) h e =
     let word : ℕ → ℕ = λ i. load (dataField fr) (sh .mem) (at i) in
-    apply-xa (put word) r (h word .0)
+    apply-filed (put word) r (h word .0) .0
 perform-xa fr r parcels sh (Writes n at val) h e = refl
 perform-xa fr r parcels sh LeavesNormally h e = refl
 perform-xa fr r parcels sh LeavesByError h e = refl

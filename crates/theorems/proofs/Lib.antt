@@ -14,3 +14,4 @@ pub mod Pair
 pub mod TwoPrograms
 pub mod Keeps
 pub mod Runs
+pub mod Before
