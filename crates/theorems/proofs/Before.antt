@@ -1,6 +1,6 @@
 -- But for its stray, every step is what it was before W6. Assumes nothing.
 use Prim.Native.Nat.{ℕ, zero, suc, _*_}
-use mathlib.Core.Path.{_≡_, refl, sym, _∙_, ap, fun-ext}
+use mathlib.Core.Path.{_≡_, refl, _∙_, ap, fun-ext}
 use mathlib.Core.Bool.{Bool, true, false, _&&_, _||_}
 use mathlib.Core.List.{List}
 use lib.ListN.{length}
@@ -22,10 +22,10 @@ use Rattle.machine.specs.Act.{Instr, Act, Does, Goes, Reads, Writes, LeavesNorm
 use Rattle.machine.specs.Codes.{Code, None, One, Two, codeOf}
 use Rattle.machine.specs.Work.{Present, Has, withParcel, decoded, presentOf, past, outside, perform, noParcel, statusOf, doneWith, workOf}
 use Rattle.machine.specs.Exchange.{programRange, operandRange}
-use Rattle.machine.specs.Step.{Out, exchange, stepped, ranged, finish, finishOf, stepOf}
+use Rattle.machine.specs.Step.{exchange, stepped, ranged, finish, finishOf, stepOf}
 use Rattle.laws.proofs.Acts.{ActOk, act-ok}
 use Rattle.theorems.specs.Before.{Old, At, Beyond, oldPlace, isBeyond, oldLoadAt, oldStoreAt, oldLoad, oldStore, oldStores, anyOutside}
-use Rattle.theorems.specs.Before.{oldParcelAt, oldFetch, oldDecoded, Plain, plain, bare, exchanges, passes, ends, lost, oldPerform, oldDone, oldStep}
+use Rattle.theorems.specs.Before.{oldParcelAt, oldFetch, oldDecoded, Plain, plain, bare, exchanges, passes, ends, oldPerform, oldDone, oldStep}
 use Rattle.theorems.proofs.Keeps.{apply-filed}
 
 -- ---- memory

@@ -132,19 +132,23 @@ perform-stray fr r parcels sh (Writes n at val) = refl
 perform-stray fr r parcels sh LeavesNormally = refl
 perform-stray fr r parcels sh LeavesByError = refl
 
--- the stray of what stands at P: of an instruction the first word outside that its act refers to, else none
+-- the stray of a step is that of its work, whatever the mode and IOR
+pub stray-of-work : (st : State) (sh : Shared) → stepOf st sh .stray ≡ workOf (st .frame) (st .registers) (st .p .0) sh .stray
+unfolding stepOf finishOf
+stray-of-work st sh =
+    let d = workOf (st .frame) (st .registers) (st .p .0) sh in
+    finish-stray st (d .work) (d .stray) (d .registers) (d .shared)
+
+-- of what stands at P: for an instruction the first word outside that its act refers to, else none
 abbrev pub strayOf : State → Shared → Present → Stray
 strayOf st sh NoParcel = Clean
 strayOf st sh NotHeld = Clean
 strayOf st sh (Has n x m parcels) =
     outside (st .frame) (sh .mem) (act (st .registers) (statusOf (st .frame) (st .registers)) x m (onward (st .p .0) parcels) n)
 
--- the stray of a step is that, whatever the mode and IOR
 pub stray-of-step : (st : State) (sh : Shared) → stepOf st sh .stray ≡ strayOf st sh (presentOf (st .frame) (sh .mem) (st .p .0))
-unfolding stepOf finishOf workOf doneWith
-stray-of-step st sh =
-    let d = workOf (st .frame) (st .registers) (st .p .0) sh in
-    finish-stray st (d .work) (d .stray) (d .registers) (d .shared) ∙ go (presentOf (st .frame) (sh .mem) (st .p .0))
+unfolding workOf doneWith
+stray-of-step st sh = stray-of-work st sh ∙ go (presentOf (st .frame) (sh .mem) (st .p .0))
   where
     go : (o : Present) → doneWith (st .frame) (st .registers) (st .p .0) sh o .stray ≡ strayOf st sh o
     go NoParcel = refl
