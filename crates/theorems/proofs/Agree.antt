@@ -1,22 +1,18 @@
 -- What a read depends on and what a store changes, where P is any set of words. Assumes nothing.
-use Prim.Native.Nat.{ℕ, zero, suc, _*_, _<_}
+use Prim.Native.Nat.{ℕ, zero, suc, _<_}
 use mathlib.Core.Path.{_≡_, refl, sym, _∙_}
-use mathlib.Core.Bool.{Bool, true, false}
 use mathlib.Core.List.{List}
 use native.Mathlib.Omega.{arith}
 use native.Mathlib.Decide.{ℕ-discrete, decLt}
 use lib.ListN.{length, getD, set, length-set}
 use lib.Seq.{getD-set-same, getD-set-other, set-out}
-use lib.Dec.{leb, ltb}
-use borrow.Author.Tests.{ltb-false, leb-false}
 use Rattle.machine.specs.declared.Place.{Place}
-use Rattle.machine.specs.declared.Place.the-variants.{At, Beyond}
-use Rattle.machine.specs.Word.{pick}
+use Rattle.machine.specs.declared.Place.the-variants.{Inside, Outside}
 use Rattle.machine.specs.Parcel.{wordOf}
 use Rattle.machine.specs.State.{Frame}
-use Rattle.machine.specs.Memory.{Field, codeField, sumOf, placeOf, loadAt, storeAt, load, store, stores, parcelAt, fetchOf}
-use Rattle.theorems.proofs.Answers.{distinct}
+use Rattle.machine.specs.Memory.{Field, codeField, placeOf, loadAt, storeAt, load, store, stores, parcelAt, fetchOf}
 use Rattle.theorems.specs.Statement.{In, Agree}
+use Rattle.theorems.proofs.Outside.{cause-first}
 
 -- only words of Q differ
 abbrev pub Only : (ℕ → Type 0) → List ℕ → List ℕ → Type 0
@@ -40,21 +36,8 @@ module _ {P : ℕ → Type 0} where
   other apart k h = record { long = k .long ∙ h .long; same = λ w p. k .same w (λ q. apart w q p) ∙ h .same w p }
 
 -- a place that is found is a word of the field
-pub place-in : (f : Field) (len a n : ℕ) → placeOf f len a ≡ At n → In f len n
-unfolding placeOf
-place-in f len a n e = go (ltb q (f .base * 32)) (leb (f .limit * 32) q) (leb len q) refl refl refl e
-  where
-    q : ℕ
-    q = sumOf f a
-
-    go : (s t u : Bool) → ltb q (f .base * 32) ≡ s → leb (f .limit * 32) q ≡ t → leb len q ≡ u
-        → pick s Beyond (pick t Beyond (pick u Beyond (At q))) ≡ At n → In f len n
-    go true t u b l o h = absurd (distinct (cc))
-    go false true u b l o h = absurd (distinct (cc))
-    go false false true b l o h = absurd (distinct (cc))
-    go false false false b l o h =
-        let z : q ≡ n = cc in
-        rw (← z) (ltb-false q (f .base * 32) b, leb-false (f .limit * 32) q l, leb-false len q o)
+pub place-in : (f : Field) (len a n : ℕ) → placeOf f len a ≡ Inside n → In f len n
+place-in f len a n e = cause-first f len a (Inside n) .0 e .1
 
 -- a word read, and a parcel fetched, depend on the words of the field alone
 pub load-agree : (f : Field) (len : ℕ) (m m' : List ℕ) (a : ℕ) → length m ≡ len → Agree (In f len) m m' → load f m a ≡ load f m' a
@@ -62,16 +45,16 @@ unfolding load
 load-agree f len m m' a e h = rw (← (h .long), e) (go (placeOf f len a) refl)
   where
     go : (o : Place) → placeOf f len a ≡ o → loadAt m o ≡ loadAt m' o
-    go (At n) q = h .same n (place-in f len a n q)
-    go Beyond q = refl
+    go (Inside n) q = h .same n (place-in f len a n q)
+    go (Outside cause) q = refl
 
 pub fetch-agree : (fr : Frame) (len : ℕ) (m m' : List ℕ) (p : ℕ) → length m ≡ len → Agree (In (codeField fr) len) m m' → fetchOf fr m p ≡ fetchOf fr m' p
 unfolding fetchOf
 fetch-agree fr len m m' p e h = rw (← (h .long), e) (go (placeOf (codeField fr) len (wordOf p)) refl)
   where
     go : (o : Place) → placeOf (codeField fr) len (wordOf p) ≡ o → parcelAt m p o ≡ parcelAt m' p o
-    go (At n) q = rw (h .same n (place-in (codeField fr) len (wordOf p) n q))
-    go Beyond q = refl
+    go (Inside n) q = rw (h .same n (place-in (codeField fr) len (wordOf p) n q))
+    go (Outside cause) q = refl
 
 -- the same store in two memories leaves them agreeing wherever they did
 set-agree : {P : ℕ → Type 0} (m m' : List ℕ) (n v : ℕ) → Agree P m m' → Agree P (set m n v) (set m' n v)
@@ -88,8 +71,8 @@ unfolding store
 store-agree {P} f m m' a v h = rw (h .long) (go (placeOf f (length m') a))
   where
     go : (o : Place) → Agree P (storeAt m o v) (storeAt m' o v)
-    go (At n) = set-agree m m' n v h
-    go Beyond = h
+    go (Inside n) = set-agree m m' n v h
+    go (Outside cause) = h
 
 pub stores-agree : {P : ℕ → Type 0} (f : Field) (at val : ℕ → ℕ) (n : ℕ) (m m' : List ℕ) → Agree P m m' → Agree P (stores f at val n m) (stores f at val n m')
 unfolding stores
@@ -102,9 +85,9 @@ unfolding store
 store-only f len m a v e = rw e (go (placeOf f len a) refl)
   where
     go : (o : Place) → placeOf f len a ≡ o → Only (In f len) m (storeAt m o v)
-    go (At n) q =
+    go (Inside n) q =
         record { long = length-set m n v; same = λ w out. getD-set-other m n w v 0 (λ z. out (rw z (place-in f len a n q))) }
-    go Beyond q = itself m
+    go (Outside cause) q = itself m
 
 pub stores-only : (f : Field) (len : ℕ) (at val : ℕ → ℕ) (n : ℕ) (m : List ℕ) → length m ≡ len → Only (In f len) m (stores f at val n m)
 unfolding stores

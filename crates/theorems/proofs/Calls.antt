@@ -15,11 +15,15 @@ use Rattle.machine.specs.declared.Reply.the-variants.{Refused}
 use Rattle.machine.specs.declared.Ending.the-variants as ending
 use Rattle.machine.specs.declared.Last.{Last}
 use Rattle.machine.specs.declared.Last.the-variants as last
+use Rattle.machine.specs.declared.Stray.{Stray}
+use Rattle.machine.specs.declared.Stray.the-variants.{Clean}
 use Rattle.machine.specs.Word.{pick}
 use Rattle.machine.specs.State.{State, Shared, addr}
+use Rattle.machine.specs.Memory.{orElse}
 use Rattle.machine.specs.Exchange.{packageWord, loadedP, loadedRegisters, loadedFrame, loaded}
 use Rattle.machine.specs.Step.{stepOf, stops, goesOn, counted}
-use Rattle.machine.specs.Run.{zeros, blankRegisters, blankFrame, startOf, Turned, turned, turnOf, Ended, ended, endingOf, runOf, PairEnded, pairEnded, pairOf}
+use Rattle.machine.specs.Run.{zeros, blankRegisters, blankFrame, startOf, Turned, turned, turnOf, Ended, ended, endingOf, runOf}
+use Rattle.machine.specs.Run.{Half, half, halfAfter, PairEnded, pairEnded, pairOf}
 use Rattle.machine.specs.Refusal.{below, registersFit, frameFits, stateFits, memoryFits, check, firstDue, startRefusal, stepRefusal, runRefusal, pairRefusal}
 use Rattle.machine.specs.Call.{unless, Started, started, startCall, Replied, replied, stepCall, turnCall, runCall, pairCall}
 use Rattle.laws.proofs.Below.{picked}
@@ -54,24 +58,24 @@ module _ (n : ℕ) (some : n ≡ 0 → ⊥) where
   unfolding startCall
   start-refused st mem x k e = refused _ (λ m. started m st) _ n e some
 
-  pub step-refused : (st : State) (sh : Shared) → stepRefusal (length (sh .mem)) st ≡ n → stepCall st sh ≡ replied (Refused n) st sh
+  pub step-refused : (st : State) (sh : Shared) → stepRefusal (length (sh .mem)) st ≡ n → stepCall st sh ≡ replied (Refused n) Clean st sh
   unfolding stepCall
-  step-refused st sh e = refused _ (λ m. replied (Refused m) st sh) _ n e some
+  step-refused st sh e = refused _ (λ m. replied (Refused m) Clean st sh) _ n e some
 
   pub turn-refused : (st : State) (sh : Shared) (budget : ℕ) → runRefusal (length (sh .mem)) st budget ≡ n
-      → turnCall st sh budget ≡ turned (last.Refused n) 0 st sh
+      → turnCall st sh budget ≡ turned (last.Refused n) Clean 0 st sh
   unfolding turnCall
-  turn-refused st sh budget e = refused _ (λ m. turned (last.Refused m) 0 st sh) _ n e some
+  turn-refused st sh budget e = refused _ (λ m. turned (last.Refused m) Clean 0 st sh) _ n e some
 
   pub run-refused : (st : State) (sh : Shared) (budget : ℕ) → runRefusal (length (sh .mem)) st budget ≡ n
-      → runCall st sh budget ≡ ended (ending.Refused n) 0 st sh
+      → runCall st sh budget ≡ ended (ending.Refused n) Clean 0 st sh
   unfolding runCall
-  run-refused st sh budget e = refused _ (λ m. ended (ending.Refused m) 0 st sh) _ n e some
+  run-refused st sh budget e = refused _ (λ m. ended (ending.Refused m) Clean 0 st sh) _ n e some
 
   pub pair-refused : (x y : State) (sh : Shared) (schedule : List ℕ) → pairRefusal (length (sh .mem)) x y schedule ≡ n
-      → pairCall x y sh schedule ≡ pairEnded (last.Refused n) 0 x y sh
+      → pairCall x y sh schedule ≡ pairEnded (last.Refused n) 0 (half x) (half y) sh
   unfolding pairCall
-  pair-refused x y sh schedule e = refused _ (λ m. pairEnded (last.Refused m) 0 x y sh) _ n e some
+  pair-refused x y sh schedule e = refused _ (λ m. pairEnded (last.Refused m) 0 (half x) (half y) sh) _ n e some
 
 -- and only such a call answers that it is refused
 only : {A : Type 0} (Says : A → ℕ → Type 0) (does : A) (left : ℕ → A) → ((n : ℕ) → Says does n → ⊥) → ((m n : ℕ) → Says (left m) n → m ≡ n)
@@ -98,33 +102,33 @@ was o n e = distinct (cc)
 nothing : Answers last.Nothing
 nothing n e = distinct (cc)
 
-run-answers : (budget k : ℕ) (st : State) (sh : Shared) (n : ℕ) → runOf budget k st sh .ending ≡ ending.Refused n → ⊥
+run-answers : (budget : ℕ) (s : Stray) (k : ℕ) (st : State) (sh : Shared) (n : ℕ) → runOf budget s k st sh .ending ≡ ending.Refused n → ⊥
 unfolding runOf
-run-answers zero k st sh n = λ e. distinct (cc)
-run-answers (suc budget) k st sh n =
+run-answers zero s k st sh n = λ e. distinct (cc)
+run-answers (suc budget) s k st sh n =
     let o = stepOf st sh in
     picked (λ (e : Ended). e .ending ≡ ending.Refused n → ⊥) (stops (o .answer))
-    (ending-answers (o .answer) n) (run-answers budget (k + counted (o .answer)) (o .state) (o .shared) n)
+    (ending-answers (o .answer) n) (run-answers budget (orElse (o .stray) s) (k + counted (o .answer)) (o .state) (o .shared) n)
 
-turn-answers : (budget : ℕ) (l : Last) (k : ℕ) (st : State) (sh : Shared) → Answers l → Answers (turnOf budget l k st sh .last)
+turn-answers : (budget : ℕ) (l : Last) (s : Stray) (k : ℕ) (st : State) (sh : Shared) → Answers l → Answers (turnOf budget l s k st sh .last)
 unfolding turnOf
-turn-answers zero l k st sh h = h
-turn-answers (suc budget) l k st sh h =
+turn-answers zero l s k st sh h = h
+turn-answers (suc budget) l s k st sh h =
     let o = stepOf st sh in
     picked (λ (e : Turned). Answers (e .last)) (goesOn (o .answer))
-    (turn-answers budget (last.Was (o .answer)) (k + counted (o .answer)) (o .state) (o .shared) (was (o .answer))) (was (o .answer))
+    (turn-answers budget (last.Was (o .answer)) (orElse (o .stray) s) (k + counted (o .answer)) (o .state) (o .shared) (was (o .answer))) (was (o .answer))
 
-pair-answers : (bytes : List ℕ) (l : Last) (k : ℕ) (x y : State) (sh : Shared) → Answers l → Answers (pairOf bytes l k x y sh .last)
+pair-answers : (bytes : List ℕ) (l : Last) (k : ℕ) (x y : Half) (sh : Shared) → Answers l → Answers (pairOf bytes l k x y sh .last)
 unfolding pairOf
 pair-answers [] l k x y sh h = h
 pair-answers (zero ∷ bytes) l k x y sh h =
-    let o = stepOf x sh in
+    let o = stepOf (x .state) sh in
     picked (λ (e : PairEnded). Answers (e .last)) (goesOn (o .answer))
-    (pair-answers bytes (last.Was (o .answer)) (k + counted (o .answer)) (o .state) y (o .shared) (was (o .answer))) (was (o .answer))
+    (pair-answers bytes (last.Was (o .answer)) (k + counted (o .answer)) (halfAfter x o) y (o .shared) (was (o .answer))) (was (o .answer))
 pair-answers (suc b ∷ bytes) l k x y sh h =
-    let o = stepOf y sh in
+    let o = stepOf (y .state) sh in
     picked (λ (e : PairEnded). Answers (e .last)) (goesOn (o .answer))
-    (pair-answers bytes (last.Was (o .answer)) (k + counted (o .answer)) x (o .state) (o .shared) (was (o .answer))) (was (o .answer))
+    (pair-answers bytes (last.Was (o .answer)) (k + counted (o .answer)) x (halfAfter y o) (o .shared) (was (o .answer))) (was (o .answer))
 
 -- a start's number is its refusal number, 0 too
 pub start-number : (st : State) (mem : List ℕ) (x n : ℕ) → startCall st mem x n .refused ≡ startRefusal (length mem) x n
@@ -137,28 +141,28 @@ start-number st mem x n = go (startRefusal (length mem) x n)
 
 pub step-refused-only : (st : State) (sh : Shared) (n : ℕ) → stepCall st sh .reply ≡ Refused n → (stepRefusal (length (sh .mem)) st ≡ n) × (n ≡ 0 → ⊥)
 unfolding stepCall
-step-refused-only st sh = only (λ o n. o .reply ≡ Refused n) _ (λ m. replied (Refused m) st sh) (λ n e. distinct (cc)) (λ m n e. cc) _
+step-refused-only st sh = only (λ o n. o .reply ≡ Refused n) _ (λ m. replied (Refused m) Clean st sh) (λ n e. distinct (cc)) (λ m n e. cc) _
 
 pub turn-refused-only : (st : State) (sh : Shared) (budget n : ℕ) → turnCall st sh budget .last ≡ last.Refused n
     → (runRefusal (length (sh .mem)) st budget ≡ n) × (n ≡ 0 → ⊥)
 unfolding turnCall
 turn-refused-only st sh budget =
-    only (λ o n. o .last ≡ last.Refused n) (turnOf budget last.Nothing 0 st sh) (λ m. turned (last.Refused m) 0 st sh)
-    (turn-answers budget last.Nothing 0 st sh nothing) (λ m n e. cc) _
+    only (λ o n. o .last ≡ last.Refused n) (turnOf budget last.Nothing Clean 0 st sh) (λ m. turned (last.Refused m) Clean 0 st sh)
+    (turn-answers budget last.Nothing Clean 0 st sh nothing) (λ m n e. cc) _
 
 pub run-refused-only : (st : State) (sh : Shared) (budget n : ℕ) → runCall st sh budget .ending ≡ ending.Refused n
     → (runRefusal (length (sh .mem)) st budget ≡ n) × (n ≡ 0 → ⊥)
 unfolding runCall
 run-refused-only st sh budget =
-    only (λ o n. o .ending ≡ ending.Refused n) (runOf budget 0 st sh) (λ m. ended (ending.Refused m) 0 st sh)
-    (run-answers budget 0 st sh) (λ m n e. cc) _
+    only (λ o n. o .ending ≡ ending.Refused n) (runOf budget Clean 0 st sh) (λ m. ended (ending.Refused m) Clean 0 st sh)
+    (run-answers budget Clean 0 st sh) (λ m n e. cc) _
 
 pub pair-refused-only : (x y : State) (sh : Shared) (schedule : List ℕ) (n : ℕ) → pairCall x y sh schedule .last ≡ last.Refused n
     → (pairRefusal (length (sh .mem)) x y schedule ≡ n) × (n ≡ 0 → ⊥)
 unfolding pairCall
 pair-refused-only x y sh schedule =
-    only (λ o n. o .last ≡ last.Refused n) (pairOf schedule last.Nothing 0 x y sh) (λ m. pairEnded (last.Refused m) 0 x y sh)
-    (pair-answers schedule last.Nothing 0 x y sh nothing) (λ m n e. cc) _
+    only (λ o n. o .last ≡ last.Refused n) (pairOf schedule last.Nothing 0 (half x) (half y) sh) (λ m. pairEnded (last.Refused m) 0 (half x) (half y) sh)
+    (pair-answers schedule last.Nothing 0 (half x) (half y) sh nothing) (λ m n e. cc) _
 
 -- ---- a budget of 0 and an empty schedule do nothing, and are no cause of refusal
 
@@ -166,11 +170,11 @@ pub none-allowed : (len : ℕ) (st : State) → runRefusal len st 0 ≡ stepRefu
 unfolding runRefusal stepRefusal firstDue
 none-allowed len st = refl
 
-pub turn-none : (st : State) (sh : Shared) → runRefusal (length (sh .mem)) st 0 ≡ 0 → turnCall st sh 0 ≡ turned last.Nothing 0 st sh
+pub turn-none : (st : State) (sh : Shared) → runRefusal (length (sh .mem)) st 0 ≡ 0 → turnCall st sh 0 ≡ turned last.Nothing Clean 0 st sh
 unfolding turnCall turnOf
 turn-none st sh e = rw e
 
-pub run-none : (st : State) (sh : Shared) → runRefusal (length (sh .mem)) st 0 ≡ 0 → runCall st sh 0 ≡ ended ending.Budget 0 st sh
+pub run-none : (st : State) (sh : Shared) → runRefusal (length (sh .mem)) st 0 ≡ 0 → runCall st sh 0 ≡ ended ending.Budget Clean 0 st sh
 unfolding runCall runOf
 run-none st sh e = rw e
 
@@ -183,7 +187,7 @@ pub empty-allowed : (len : ℕ) (x y : State) → pairRefusal len x y []
 unfolding pairRefusal firstDue below
 empty-allowed len x y = refl
 
-pub pair-none : (x y : State) (sh : Shared) → pairRefusal (length (sh .mem)) x y [] ≡ 0 → pairCall x y sh [] ≡ pairEnded last.Nothing 0 x y sh
+pub pair-none : (x y : State) (sh : Shared) → pairRefusal (length (sh .mem)) x y [] ≡ 0 → pairCall x y sh [] ≡ pairEnded last.Nothing 0 (half x) (half y) sh
 unfolding pairCall pairOf
 pair-none x y sh e = rw e
 
@@ -259,12 +263,12 @@ unfolding at runRefusal firstDue memoryFits stateFits registersFit frameFits bel
 run-allowed = rw program-length
 
 -- three steps at most: two are counted, and the third stops
-three : runCall (at 1 0 0) program 3 ≡ ended (ending.NotHeld (addr 2)) 2 (at 1 0 2) program
+three : runCall (at 1 0 0) program 3 ≡ ended (ending.NotHeld (addr 2)) Clean 2 (at 1 0 2) program
 unfolding runCall runOf
 three = rw (run-allowed, passes-0, passes-1, stops-2)
 
 module _ (run : Run) (meets : RunMeets run) where
-  ran : run (at 1 0 0) program 3 ≡ ended (ending.NotHeld (addr 2)) 2 (at 1 0 2) program
+  ran : run (at 1 0 0) program 3 ≡ ended (ending.NotHeld (addr 2)) Clean 2 (at 1 0 2) program
   ran = meets (at 1 0 0) program 3 run-allowed ∙ three
 
   -- a run that counts all its budget
@@ -314,11 +318,11 @@ two-allowed : pairRefusal (length (program .mem)) (at 1 0 0) (at 1 1 0) (0 ∷ 0
 unfolding at pairRefusal firstDue memoryFits stateFits registersFit frameFits below zeros
 two-allowed = rw program-length
 
-one : pairCall (at 1 0 0) (at 1 1 0) program (0 ∷ []) ≡ pairEnded (last.Was Stepped) 1 (at 1 0 1) (at 1 1 0) program
+one : pairCall (at 1 0 0) (at 1 1 0) program (0 ∷ []) ≡ pairEnded (last.Was Stepped) 1 (half (at 1 0 1)) (half (at 1 1 0)) program
 unfolding pairCall pairOf
 one = rw (one-allowed, passes-0)
 
-two : pairCall (at 1 0 0) (at 1 1 0) program (0 ∷ 0 ∷ []) ≡ pairEnded (last.Was Stepped) 2 (at 1 0 2) (at 1 1 0) program
+two : pairCall (at 1 0 0) (at 1 1 0) program (0 ∷ 0 ∷ []) ≡ pairEnded (last.Was Stepped) 2 (half (at 1 0 2)) (half (at 1 1 0)) program
 unfolding pairCall pairOf
 two = rw (two-allowed, passes-0, passes-1)
 
@@ -331,16 +335,16 @@ module _ (pair : PairRun) (meets : PairMeets pair) where
   unfolding at
   first-alone always =
       let a = sym (meets (at 1 0 0) (at 1 1 0) program (0 ∷ 0 ∷ []) two-allowed ∙ two) ∙ always (at 1 0 0) (at 1 1 0) program (0 ∷ 0 ∷ []) two-allowed .1 in
-      let b : at 1 0 2 ≡ at 1 0 1 = ap (λ (o : PairEnded). o .first) a ∙ ap (λ (o : PairEnded). o .first) one in
+      let b : at 1 0 2 ≡ at 1 0 1 = ap (λ (o : PairEnded). o .first .state) a ∙ ap (λ (o : PairEnded). o .first .state) one in
       let z : _≡_ {A = ℕ} 2 1 = ap (λ (st : State). st .p .0) b in
       omega arith
 
   -- a pair run whose byte 0 does not move the first processor
-  pub zero-other : PairAlways (λ x y sh schedule. schedule ≡ 0 ∷ [] → pair x y sh schedule .first ≡ x) → ⊥
+  pub zero-other : PairAlways (λ x y sh schedule. schedule ≡ 0 ∷ [] → pair x y sh schedule .first .state ≡ x) → ⊥
   unfolding at
   zero-other always =
       let a = meets (at 1 0 0) (at 1 1 0) program (0 ∷ []) one-allowed ∙ one in
-      let b : at 1 0 1 ≡ at 1 0 0 = sym (ap (λ (o : PairEnded). o .first) a) ∙ always (at 1 0 0) (at 1 1 0) program (0 ∷ []) one-allowed refl in
+      let b : at 1 0 1 ≡ at 1 0 0 = sym (ap (λ (o : PairEnded). o .first .state) a) ∙ always (at 1 0 0) (at 1 1 0) program (0 ∷ []) one-allowed refl in
       let z : _≡_ {A = ℕ} 1 0 = ap (λ (st : State). st .p .0) b in
       omega arith
 

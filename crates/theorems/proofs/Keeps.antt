@@ -2,20 +2,22 @@
 use Prim.Native.Nat.{ℕ, zero, suc, _+_, _*_, _%_}
 use mathlib.Core.Path.{_≡_, refl, _∙_}
 use mathlib.Core.Logic.{inl, inr}
+use mathlib.Core.Bool.{_&&_}
 use mathlib.Core.List.{List}
 use native.Mathlib.Omega.{arith}
 use lib.ListN.{length, length-set}
 use lib.Dec.{eqb}
+use Rattle.machine.specs.declared.Stray.{Stray}
 use Rattle.machine.specs.declared.Work.{Work}
-use Rattle.machine.specs.declared.Work.the-variants.{PastOne, PastTwo, To, NormalExit, ErrorExit, OperandRange, ProgramRange, NotHeld, MonitorFetch}
+use Rattle.machine.specs.declared.Work.the-variants.{PastOne, PastTwo, To, NormalExit, ErrorExit, StrayedOne, StrayedTwo, ProgramRange, NotHeld, MonitorFetch}
 use Rattle.machine.specs.Parcel.{onward}
-use Rattle.machine.specs.State.{Frame, Registers, State, Shared, ring, Put, Nothing, ToA, ToS, ToB, ToT}
+use Rattle.machine.specs.State.{Frame, Registers, State, Shared, user, ring, Put, Nothing, ToA, ToS, ToB, ToT}
 use Rattle.machine.specs.State.{ToBs, ToTs, ToV, ToElement, ToVL, ToVM, ToXA, ToIOR, ToBDM, apply}
 use Rattle.machine.specs.Memory.{dataField, load}
 use Rattle.machine.specs.Act.{Act, Does, Goes, Reads, Writes, LeavesNormally, LeavesByError}
 use Rattle.machine.specs.Work.{perform, statusOf, workOf}
 use Rattle.machine.specs.Exchange.{save, loaded}
-use Rattle.machine.specs.Step.{exchange, finish, finishOf, stepOf}
+use Rattle.machine.specs.Step.{Out, exchange, ranged, finish, finishOf, stepOf}
 use Rattle.access.proofs.Places.{fill-other, fill-length}
 use Rattle.laws.proofs.Below.{picked}
 use Rattle.laws.proofs.Acts.{Filed, ActOk, act-ok}
@@ -30,35 +32,36 @@ unfolding ring
 ring-length at f zero l = refl
 ring-length at f (suc n) l = length-set (ring at f n l) ((at + n) % 64) (f n) ∙ ring-length at f n l
 
--- an exchange or a stop follows
+-- an exchange or a stop may follow
 abbrev Ends : Work → Type 0
 Ends PastOne = ⊥
 Ends PastTwo = ⊥
 Ends (To q) = ⊥
 Ends NormalExit = Unit {0}
 Ends ErrorExit = Unit {0}
-Ends (OperandRange n) = Unit {0}
+Ends StrayedOne = Unit {0}
+Ends StrayedTwo = Unit {0}
 Ends ProgramRange = Unit {0}
 Ends NotHeld = Unit {0}
 Ends MonitorFetch = Unit {0}
 
--- there XA is as it was: 0013j0, which sets it, goes on, and what is read from memory goes elsewhere
-apply-xa : (u : Put) (r : Registers) → Filed u → apply u r .xa ≡ r .xa
+-- there XA is as it was: 0013j0, which sets it, goes on, and what is read from memory goes elsewhere; it does not set IOR either
+pub apply-filed : (u : Put) (r : Registers) → Filed u → (apply u r .xa ≡ r .xa) × (apply u r .ior ≡ r .ior)
 unfolding apply
-apply-xa Nothing r h = refl
-apply-xa (ToA i x) r h = refl
-apply-xa (ToS i x) r h = refl
-apply-xa (ToB jk x) r h = refl
-apply-xa (ToT jk x) r h = refl
-apply-xa (ToBs first n x) r h = refl
-apply-xa (ToTs first n x) r h = refl
-apply-xa (ToV i x) r h = refl
-apply-xa (ToElement i e x) r h = refl
-apply-xa (ToVL x) r h = refl
-apply-xa (ToVM x) r h = refl
-apply-xa (ToXA x) r h = absurd h
-apply-xa (ToIOR x) r h = refl
-apply-xa (ToBDM x) r h = refl
+apply-filed Nothing r h = (refl, refl)
+apply-filed (ToA i x) r h = (refl, refl)
+apply-filed (ToS i x) r h = (refl, refl)
+apply-filed (ToB jk x) r h = (refl, refl)
+apply-filed (ToT jk x) r h = (refl, refl)
+apply-filed (ToBs first n x) r h = (refl, refl)
+apply-filed (ToTs first n x) r h = (refl, refl)
+apply-filed (ToV i x) r h = (refl, refl)
+apply-filed (ToElement i e x) r h = (refl, refl)
+apply-filed (ToVL x) r h = (refl, refl)
+apply-filed (ToVM x) r h = (refl, refl)
+apply-filed (ToXA x) r h = absurd h
+apply-filed (ToIOR x) r h = absurd h
+apply-filed (ToBDM x) r h = (refl, refl)
 
 perform-xa : (fr : Frame) (r : Registers) (parcels : ℕ) (sh : Shared) (a : Act) → ActOk ⊥ a → Ends (perform fr r parcels sh a .work)
     → perform fr r parcels sh a .registers .xa ≡ r .xa
@@ -67,7 +70,7 @@ perform-xa fr r parcels sh (Does put) h e = absurd (picked (λ w. Ends w → ⊥
 perform-xa fr r parcels sh (Goes q put) h e = absurd e
 perform-xa fr r parcels sh (Reads n at put) h e =
     let word : ℕ → ℕ = λ i. load (dataField fr) (sh .mem) (at i) in
-    apply-xa (put word) r (h word .0)
+    apply-filed (put word) r (h word .0) .0
 perform-xa fr r parcels sh (Writes n at val) h e = refl
 perform-xa fr r parcels sh LeavesNormally h e = refl
 perform-xa fr r parcels sh LeavesByError h e = refl
@@ -75,23 +78,31 @@ perform-xa fr r parcels sh LeavesByError h e = refl
 work-xa : (fr : Frame) (r : Registers) (p : ℕ) (sh : Shared) → Ends (workOf fr r p sh .work) → workOf fr r p sh .registers .xa ≡ r .xa
 work-xa fr r p sh =
     work-all fr r p sh (λ d. Ends (d .work) → d .registers .xa ≡ r .xa)
-    (λ n x m parcels h l. perform-xa fr r parcels sh _ (act-ok ⊥ r (statusOf fr r) x m (onward p parcels) (λ z. absurd z) n)) (λ e. refl) (λ e. refl)
+    (λ n x m parcels h. perform-xa fr r parcels sh _ (act-ok ⊥ r (statusOf fr r) x m (onward p parcels) (λ z. absurd z) n)) (λ e. refl) (λ e. refl)
 
 save-only : (fr : Frame) (r : Registers) (p flags x : ℕ) (m : List ℕ) → Only (Package x) m (save fr r p flags x m)
 unfolding save
 save-only fr r p flags x m = record { long = fill-length _ _ 16 m; same = λ w out. fill-other _ _ 16 m w (λ e l z. out (omega (arith, l, z))) }
 
-finish-only : (st : State) (w : Work) (r : Registers) (sh : Shared) (x : ℕ) → (Ends w → r .xa ≡ x) → Only (Package x) (sh .mem) (finish st w r sh .shared .mem)
+ranged-only : (fr : Frame) (r : Registers) (p : ℕ) (s : Stray) (sh : Shared) → Only (Package (r .xa)) (sh .mem) (ranged fr r p s sh .shared .mem)
+unfolding ranged exchange
+ranged-only fr r p s sh =
+    picked (λ (o : Out). Only (Package (r .xa)) (sh .mem) (o .shared .mem)) (user fr && eqb (r .ior) 1)
+    (save-only fr r p _ (r .xa) (sh .mem)) (itself (sh .mem))
+
+finish-only : (st : State) (w : Work) (s : Stray) (r : Registers) (sh : Shared) (x : ℕ) → (Ends w → r .xa ≡ x)
+    → Only (Package x) (sh .mem) (finish st w s r sh .shared .mem)
 unfolding finish exchange
-finish-only st PastOne r sh x e = itself (sh .mem)
-finish-only st PastTwo r sh x e = itself (sh .mem)
-finish-only st (To q) r sh x e = itself (sh .mem)
-finish-only st NormalExit r sh x e = rw (← (e tt)) (save-only _ r _ _ (r .xa) (sh .mem))
-finish-only st ErrorExit r sh x e = rw (← (e tt)) (save-only _ r _ _ (r .xa) (sh .mem))
-finish-only st (OperandRange n) r sh x e = rw (← (e tt)) (save-only _ r _ _ (r .xa) (sh .mem))
-finish-only st ProgramRange r sh x e = rw (← (e tt)) (save-only _ r _ _ (r .xa) (sh .mem))
-finish-only st NotHeld r sh x e = itself (sh .mem)
-finish-only st MonitorFetch r sh x e = itself (sh .mem)
+finish-only st PastOne s r sh x e = itself (sh .mem)
+finish-only st PastTwo s r sh x e = itself (sh .mem)
+finish-only st (To q) s r sh x e = itself (sh .mem)
+finish-only st NormalExit s r sh x e = rw (← (e tt)) (save-only _ r _ _ (r .xa) (sh .mem))
+finish-only st ErrorExit s r sh x e = rw (← (e tt)) (save-only _ r _ _ (r .xa) (sh .mem))
+finish-only st StrayedOne s r sh x e = rw (← (e tt)) (ranged-only (st .frame) r _ s sh)
+finish-only st StrayedTwo s r sh x e = rw (← (e tt)) (ranged-only (st .frame) r _ s sh)
+finish-only st ProgramRange s r sh x e = rw (← (e tt)) (save-only _ r _ _ (r .xa) (sh .mem))
+finish-only st NotHeld s r sh x e = itself (sh .mem)
+finish-only st MonitorFetch s r sh x e = itself (sh .mem)
 
 pub step-touches : (st : State) (sh : Shared) → Only (Touches st (length (sh .mem))) (sh .mem) (stepOf st sh .shared .mem)
 unfolding stepOf finishOf
@@ -100,7 +111,7 @@ step-touches st sh =
     let r = st .registers in
     let p = st .p .0 in
     let d = workOf fr r p sh in
-    chain (weaken (λ w out p. out (inr p)) (finish-only st (d .work) (d .registers) (d .shared) (r .xa) (work-xa fr r p sh)))
+    chain (weaken (λ w out p. out (inr p)) (finish-only st (d .work) (d .stray) (d .registers) (d .shared) (r .xa) (work-xa fr r p sh)))
     (weaken (λ w out p. out (inl p)) (work-only fr r p (length (sh .mem)) sh refl))
 
 -- memory keeps its length
@@ -138,17 +149,23 @@ loaded-sized : (m : List ℕ) (x : ℕ) (r : Registers) (fr : Frame) → Sized r
 unfolding loaded
 loaded-sized m x r fr z = record { a = refl; s = refl; b = z .b; t = z .t; v = z .v }
 
-finish-sized : (st : State) (w : Work) (r : Registers) (sh : Shared) → Sized (st .registers) → Sized r → Sized (finish st w r sh .state .registers)
+ranged-sized : (fr : Frame) (r : Registers) (p : ℕ) (s : Stray) (sh : Shared) → Sized r → Sized (ranged fr r p s sh .state .registers)
+unfolding ranged exchange
+ranged-sized fr r p s sh z =
+    picked (λ (o : Out). Sized (o .state .registers)) (user fr && eqb (r .ior) 1) (loaded-sized (sh .mem) (r .xa) r fr z) z
+
+finish-sized : (st : State) (w : Work) (s : Stray) (r : Registers) (sh : Shared) → Sized (st .registers) → Sized r → Sized (finish st w s r sh .state .registers)
 unfolding finish exchange
-finish-sized st PastOne r sh z y = y
-finish-sized st PastTwo r sh z y = y
-finish-sized st (To q) r sh z y = y
-finish-sized st NormalExit r sh z y = loaded-sized (sh .mem) (r .xa) r (st .frame) y
-finish-sized st ErrorExit r sh z y = loaded-sized (sh .mem) (r .xa) r (st .frame) y
-finish-sized st (OperandRange n) r sh z y = loaded-sized (sh .mem) (r .xa) r (st .frame) y
-finish-sized st ProgramRange r sh z y = loaded-sized (sh .mem) (r .xa) r (st .frame) y
-finish-sized st NotHeld r sh z y = z
-finish-sized st MonitorFetch r sh z y = z
+finish-sized st PastOne s r sh z y = y
+finish-sized st PastTwo s r sh z y = y
+finish-sized st (To q) s r sh z y = y
+finish-sized st NormalExit s r sh z y = loaded-sized (sh .mem) (r .xa) r (st .frame) y
+finish-sized st ErrorExit s r sh z y = loaded-sized (sh .mem) (r .xa) r (st .frame) y
+finish-sized st StrayedOne s r sh z y = ranged-sized (st .frame) r _ s sh y
+finish-sized st StrayedTwo s r sh z y = ranged-sized (st .frame) r _ s sh y
+finish-sized st ProgramRange s r sh z y = loaded-sized (sh .mem) (r .xa) r (st .frame) y
+finish-sized st NotHeld s r sh z y = z
+finish-sized st MonitorFetch s r sh z y = z
 
 pub step-sized : (st : State) (sh : Shared) → Sized (st .registers) → Sized (stepOf st sh .state .registers)
 unfolding stepOf finishOf
@@ -156,5 +173,5 @@ step-sized st sh z =
     let fr = st .frame in
     let r = st .registers in
     let d = workOf fr r (st .p .0) sh in
-    finish-sized st (d .work) (d .registers) (d .shared) z
-    (work-all fr r (st .p .0) sh (λ d. Sized (d .registers)) (λ n x m parcels h l. perform-sized fr r parcels sh _ z) z z)
+    finish-sized st (d .work) (d .stray) (d .registers) (d .shared) z
+    (work-all fr r (st .p .0) sh (λ d. Sized (d .registers)) (λ n x m parcels h. perform-sized fr r parcels sh _ z) z z)

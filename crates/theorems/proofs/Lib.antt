@@ -6,6 +6,7 @@ pub mod Program
 pub mod Wrong
 pub mod Calls
 pub mod Words
+pub mod Outside
 pub mod Agree
 pub mod Step
 pub mod Walk
@@ -13,3 +14,4 @@ pub mod Pair
 pub mod TwoPrograms
 pub mod Keeps
 pub mod Runs
+pub mod Before

@@ -13,22 +13,24 @@ use Rattle.machine.specs.declared.Last.the-variants as last
 use Rattle.machine.specs.State.{Frame, State, Shared, sharing}
 use Rattle.machine.specs.Memory.{Field, dataField}
 use Rattle.machine.specs.Step.{stepOf}
-use Rattle.machine.specs.Run.{zeros, PairEnded, pairOf}
-use Rattle.theorems.proofs.Counted.{stateAfter, sharedAfter}
+use Rattle.machine.specs.Run.{zeros, Half, half, halfAfter, PairEnded, pairOf}
+use Rattle.theorems.proofs.Counted.{sharedAfter}
 use Rattle.theorems.specs.Statement.{In, Own, Neither, Agree, Apart, firsts, seconds, oneBytes, together, Smooth, AsAlone, Demand3}
 use Rattle.theorems.proofs.Agree.{Only, itself, flip, chain, weaken, other}
 use Rattle.theorems.proofs.Step.{step-frame, step-only}
-use Rattle.theorems.proofs.Walk.{Steps, SameWalk, walk-same, as-alone}
+use Rattle.theorems.proofs.Walk.{Steps, SameWalk, walk-same, later, later-same, as-alone}
 
 -- a pair run goes on after a step that stepped
-module _ (bytes : List ℕ) (l : Last) (d : ℕ) (x y : State) (sh : Shared) where
-  turn-first : stepOf x sh .answer ≡ Stepped
-      → pairOf (zero ∷ bytes) l d x y sh ≡ pairOf bytes (last.Was Stepped) (d + 1) (stepOf x sh .state) y (stepOf x sh .shared)
+module _ (bytes : List ℕ) (l : Last) (d : ℕ) (x y : Half) (sh : Shared) where
+  turn-first : stepOf (x .state) sh .answer ≡ Stepped
+      → pairOf (zero ∷ bytes) l d x y sh
+      ≡ pairOf bytes (last.Was Stepped) (d + 1) (halfAfter x (stepOf (x .state) sh)) y (stepOf (x .state) sh .shared)
   unfolding pairOf
   turn-first e = rw e
 
-  turn-second : (b : ℕ) → stepOf y sh .answer ≡ Stepped
-      → pairOf (suc b ∷ bytes) l d x y sh ≡ pairOf bytes (last.Was Stepped) (d + 1) x (stepOf y sh .state) (stepOf y sh .shared)
+  turn-second : (b : ℕ) → stepOf (y .state) sh .answer ≡ Stepped
+      → pairOf (suc b ∷ bytes) l d x y sh
+      ≡ pairOf bytes (last.Was Stepped) (d + 1) x (halfAfter y (stepOf (y .state) sh)) (stepOf (y .state) sh .shared)
   unfolding pairOf
   turn-second b e = rw e
 
@@ -42,13 +44,13 @@ last-stepped zero = refl
 last-stepped (suc n) = refl
 
 -- what a pair run in which all stepped leaves, by the steps of each alone
-record Parts (fr gr : Frame) (len : ℕ) (bytes : List ℕ) (l : Last) (d : ℕ) (x y : State) (sh : Shared) (e : PairEnded) : Type 0 where
-  steps-x : Steps (firsts bytes) x sh
-  steps-y : Steps (seconds bytes) y sh
-  state-x : stateAfter (firsts bytes) x sh ≡ e .first
-  state-y : stateAfter (seconds bytes) y sh ≡ e .second
-  mem-x : Agree (Own fr len) (sharedAfter (firsts bytes) x sh .mem) (e .shared .mem)
-  mem-y : Agree (Own gr len) (sharedAfter (seconds bytes) y sh .mem) (e .shared .mem)
+record Parts (fr gr : Frame) (len : ℕ) (bytes : List ℕ) (l : Last) (d : ℕ) (x y : Half) (sh : Shared) (e : PairEnded) : Type 0 where
+  steps-x : Steps (firsts bytes) (x .state) sh
+  steps-y : Steps (seconds bytes) (y .state) sh
+  later-x : later (firsts bytes) x sh ≡ e .first
+  later-y : later (seconds bytes) y sh ≡ e .second
+  mem-x : Agree (Own fr len) (sharedAfter (firsts bytes) (x .state) sh .mem) (e .shared .mem)
+  mem-y : Agree (Own gr len) (sharedAfter (seconds bytes) (y .state) sh .mem) (e .shared .mem)
   rest : Agree (Neither fr gr len) (e .shared .mem) (sh .mem)
   answers : e .last ≡ lastOf l (length bytes)
   count : e .steps ≡ d + length bytes
@@ -76,8 +78,8 @@ module _ (fr gr : Frame) (len : ℕ) (apart : Apart fr gr len) where
   -- by induction over the schedule
   Claim : List ℕ → Type 0
   Claim bytes =
-      (l : Last) (d : ℕ) (x y : State) (sh : Shared) → x .frame ≡ fr → y .frame ≡ gr → length (sh .mem) ≡ len
-      → Smooth bytes x y sh → Parts fr gr len bytes l d x y sh (pairOf bytes l d x y sh)
+      (l : Last) (d : ℕ) (x y : Half) (sh : Shared) → x .state .frame ≡ fr → y .state .frame ≡ gr → length (sh .mem) ≡ len
+      → Smooth bytes (x .state) (y .state) sh → Parts fr gr len bytes l d x y sh (pairOf bytes l d x y sh)
 
   none : Claim []
   unfolding Claim pairOf firsts seconds
@@ -85,8 +87,8 @@ module _ (fr gr : Frame) (len : ℕ) (apart : Apart fr gr len) where
       record {
         steps-x = tt;
         steps-y = tt;
-        state-x = refl;
-        state-y = refl;
+        later-x = refl;
+        later-y = refl;
         mem-x = itself (sh .mem);
         mem-y = itself (sh .mem);
         rest = itself (sh .mem);
@@ -97,17 +99,17 @@ module _ (fr gr : Frame) (len : ℕ) (apart : Apart fr gr len) where
   by-first : (bytes : List ℕ) → Claim bytes → Claim (zero ∷ bytes)
   unfolding Claim firsts seconds
   by-first bytes ih l d x y sh e g n s =
-      let o = stepOf x sh in
+      let o = stepOf (x .state) sh in
       let t = turn-first bytes l d x y sh (s .0) in
-      let k = moves fr x len sh e n (s .0) in
+      let k = moves fr (x .state) len sh e n (s .0) in
       let n' = k .long ∙ n in
-      let u = ih (last.Was Stepped) (d + 1) (o .state) y (o .shared) (step-frame x sh (s .0) ∙ e) g n' (s .1) in
-      let v = repeat gr y len (seconds bytes) (o .shared) sh g n' (other not-y k (itself (sh .mem))) (u .steps-y) in
+      let u = ih (last.Was Stepped) (d + 1) (halfAfter x o) y (o .shared) (step-frame (x .state) sh (s .0) ∙ e) g n' (s .1) in
+      let v = repeat gr (y .state) len (seconds bytes) (o .shared) sh g n' (other not-y k (itself (sh .mem))) (u .steps-y) in
       record {
         steps-x = (s .0, u .steps-x);
         steps-y = v .steps;
-        state-x = rw t (u .state-x);
-        state-y = rw t (v .state ∙ u .state-y);
+        later-x = rw t (u .later-x);
+        later-y = rw t (later-same (seconds bytes) y (o .shared) sh v ∙ u .later-y);
         mem-x = rw t (u .mem-x);
         mem-y = rw t (chain (flip (v .mem)) (u .mem-y));
         rest = rw t (chain (u .rest) (weaken (λ w o. o .0) k));
@@ -118,17 +120,17 @@ module _ (fr gr : Frame) (len : ℕ) (apart : Apart fr gr len) where
   by-second : (b : ℕ) (bytes : List ℕ) → Claim bytes → Claim (suc b ∷ bytes)
   unfolding Claim firsts seconds
   by-second b bytes ih l d x y sh e g n s =
-      let o = stepOf y sh in
+      let o = stepOf (y .state) sh in
       let t = turn-second bytes l d x y sh b (s .0) in
-      let k = moves gr y len sh g n (s .0) in
+      let k = moves gr (y .state) len sh g n (s .0) in
       let n' = k .long ∙ n in
-      let u = ih (last.Was Stepped) (d + 1) x (o .state) (o .shared) e (step-frame y sh (s .0) ∙ g) n' (s .1) in
-      let v = repeat fr x len (firsts bytes) (o .shared) sh e n' (other not-x k (itself (sh .mem))) (u .steps-x) in
+      let u = ih (last.Was Stepped) (d + 1) x (halfAfter y o) (o .shared) e (step-frame (y .state) sh (s .0) ∙ g) n' (s .1) in
+      let v = repeat fr (x .state) len (firsts bytes) (o .shared) sh e n' (other not-x k (itself (sh .mem))) (u .steps-x) in
       record {
         steps-x = v .steps;
         steps-y = (s .0, u .steps-y);
-        state-x = rw t (v .state ∙ u .state-x);
-        state-y = rw t (u .state-y);
+        later-x = rw t (later-same (firsts bytes) x (o .shared) sh v ∙ u .later-x);
+        later-y = rw t (u .later-y);
         mem-x = rw t (chain (flip (v .mem)) (u .mem-x));
         mem-y = rw t (u .mem-y);
         rest = rw t (chain (u .rest) (weaken (λ w o. o .1) k));
@@ -185,15 +187,15 @@ joined fr gr len m m' a b c =
     go w (inr p) (inr q) = c .same w (p, q)
 
 -- two schedules of as many steps of each
-alike : (fr gr : Frame) (len : ℕ) (bytes more : List ℕ) (x y : State) (sh : Shared) (e e' : PairEnded)
+alike : (fr gr : Frame) (len : ℕ) (bytes more : List ℕ) (x y : Half) (sh : Shared) (e e' : PairEnded)
     → firsts more ≡ firsts bytes → seconds more ≡ seconds bytes
     → Parts fr gr len more last.Nothing 0 x y sh e → Parts fr gr len bytes last.Nothing 0 x y sh e' → e ≡ e'
 alike fr gr len bytes more x y sh e e' f s a b =
     let n : length more ≡ length bytes = total more ∙ ap₂ _+_ f s ∙ sym (total bytes) in
     let ends : e .last ≡ e' .last = a .answers ∙ ap (lastOf last.Nothing) n ∙ sym (b .answers) in
     let steps : e .steps ≡ e' .steps = a .count ∙ ap (λ (n : ℕ). 0 + n) n ∙ sym (b .count) in
-    let first : e .first ≡ e' .first = sym (a .state-x) ∙ ap (λ (n : ℕ). stateAfter n x sh) f ∙ b .state-x in
-    let second : e .second ≡ e' .second = sym (a .state-y) ∙ ap (λ (n : ℕ). stateAfter n y sh) s ∙ b .state-y in
+    let first : e .first ≡ e' .first = sym (a .later-x) ∙ ap (λ (n : ℕ). later n x sh) f ∙ b .later-x in
+    let second : e .second ≡ e' .second = sym (a .later-y) ∙ ap (λ (n : ℕ). later n y sh) s ∙ b .later-y in
     let mx : Agree (Own fr len) (e .shared .mem) (e' .shared .mem) = chain (flip (a .mem-x)) (rw f (b .mem-x)) in
     let my : Agree (Own gr len) (e .shared .mem) (e' .shared .mem) = chain (flip (a .mem-y)) (rw s (b .mem-y)) in
     let mem = joined fr gr len (e .shared .mem) (e' .shared .mem) (weaken (λ w p. inr p) mx) (weaken (λ w p. inr p) my) (chain (a .rest) (flip (b .rest))) in
@@ -213,9 +215,9 @@ seconds-in-turn zero (suc k) = ap suc (seconds-in-turn zero k)
 seconds-in-turn (suc n) k = seconds-in-turn n k
 
 module _ (bytes : List ℕ) (x y : State) (sh : Shared) (apart : Apart (x .frame) (y .frame) (length (sh .mem))) (s : Smooth bytes x y sh) where
-  parts : Parts (x .frame) (y .frame) (length (sh .mem)) bytes last.Nothing 0 x y sh (together bytes x y sh)
+  parts : Parts (x .frame) (y .frame) (length (sh .mem)) bytes last.Nothing 0 (half x) (half y) sh (together bytes x y sh)
   unfolding Claim
-  parts = all (x .frame) (y .frame) (length (sh .mem)) apart bytes last.Nothing 0 x y sh refl refl refl s
+  parts = all (x .frame) (y .frame) (length (sh .mem)) apart bytes last.Nothing 0 (half x) (half y) sh refl refl refl s
 
   any-smooth : (more : List ℕ) → firsts more ≡ firsts bytes → seconds more ≡ seconds bytes → Smooth more x y sh
   any-smooth more f g = smooth (x .frame) (y .frame) (length (sh .mem)) apart more x y sh refl refl refl (rw f (parts .steps-x)) (rw g (parts .steps-y))
@@ -223,21 +225,23 @@ module _ (bytes : List ℕ) (x y : State) (sh : Shared) (apart : Apart (x .frame
   any-order : (more : List ℕ) → firsts more ≡ firsts bytes → seconds more ≡ seconds bytes → together more x y sh ≡ together bytes x y sh
   unfolding Claim
   any-order more f g =
-      alike (x .frame) (y .frame) (length (sh .mem)) bytes more x y sh (together more x y sh) (together bytes x y sh) f g
-      (all (x .frame) (y .frame) (length (sh .mem)) apart more last.Nothing 0 x y sh refl refl refl (any-smooth more f g)) parts
+      alike (x .frame) (y .frame) (length (sh .mem)) bytes more (half x) (half y) sh (together more x y sh) (together bytes x y sh) f g
+      (all (x .frame) (y .frame) (length (sh .mem)) apart more last.Nothing 0 (half x) (half y) sh refl refl refl (any-smooth more f g)) parts
 
   first-alone : (sh' : Shared) → Agree (Own (x .frame) (length (sh .mem))) (sh .mem) (sh' .mem)
       → AsAlone (firsts bytes) x sh' (together bytes x y sh .first) (together bytes x y sh .shared)
   first-alone sh' h =
       let w = walk-same (Own (x .frame) (length (sh .mem))) (length (sh .mem)) (firsts bytes) x sh sh' (λ w o. o) refl h (parts .steps-x) in
-      as-alone (firsts bytes) x sh' (together bytes x y sh .first) (together bytes x y sh .shared) (w .steps) (w .state ∙ parts .state-x)
+      as-alone (firsts bytes) x sh' (together bytes x y sh .first) (together bytes x y sh .shared) (w .steps)
+      (later-same (firsts bytes) (half x) sh sh' w ∙ parts .later-x)
       (rw (← (h .long)) (chain (flip (w .mem)) (parts .mem-x)))
 
   second-alone : (sh' : Shared) → Agree (Own (y .frame) (length (sh .mem))) (sh .mem) (sh' .mem)
       → AsAlone (seconds bytes) y sh' (together bytes x y sh .second) (together bytes x y sh .shared)
   second-alone sh' h =
       let w = walk-same (Own (y .frame) (length (sh .mem))) (length (sh .mem)) (seconds bytes) y sh sh' (λ w o. o) refl h (parts .steps-y) in
-      as-alone (seconds bytes) y sh' (together bytes x y sh .second) (together bytes x y sh .shared) (w .steps) (w .state ∙ parts .state-y)
+      as-alone (seconds bytes) y sh' (together bytes x y sh .second) (together bytes x y sh .shared) (w .steps)
+      (later-same (seconds bytes) (half y) sh sh' w ∙ parts .later-y)
       (rw (← (h .long)) (chain (flip (w .mem)) (parts .mem-y)))
 
 pub undisturbed : Demand3

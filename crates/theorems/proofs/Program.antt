@@ -4,6 +4,7 @@ use mathlib.Core.Path.{_≡_, refl}
 use mathlib.Core.List.{_∷_}
 use lib.ListN.{length, getD}
 use Rattle.machine.specs.declared.Answer.the-variants.{Stepped, NotHeld, MonitorFetch}
+use Rattle.machine.specs.declared.Stray.the-variants.{Clean}
 use Rattle.machine.specs.State.{State, Shared, sharing, addr, apply}
 use Rattle.machine.specs.Memory.{placeOf, fetchOf}
 use Rattle.machine.specs.Act.{act}
@@ -34,20 +35,20 @@ unfolding program
 program-first = refl
 
 -- the passes move P on
-pub passes-0 : stepOf (at 1 0 0) program ≡ out Stepped (at 1 0 1) program
+pub passes-0 : stepOf (at 1 0 0) program ≡ out Stepped Clean (at 1 0 1) program
 unfolding at stepOf finishOf finish workOf presentOf decoded doneWith fetchOf placeOf perform act apply codeOf code001
 passes-0 = rw (program-length, program-first)
 
-pub passes-1 : stepOf (at 1 0 1) program ≡ out Stepped (at 1 0 2) program
+pub passes-1 : stepOf (at 1 0 1) program ≡ out Stepped Clean (at 1 0 2) program
 unfolding at stepOf finishOf finish workOf presentOf decoded doneWith fetchOf placeOf perform act apply codeOf code001
 passes-1 = rw (program-length, program-first)
 
 -- then it stops
-pub stops-2 : stepOf (at 1 0 2) program ≡ out (NotHeld (addr 2)) (at 1 0 2) program
+pub stops-2 : stepOf (at 1 0 2) program ≡ out (NotHeld (addr 2)) Clean (at 1 0 2) program
 unfolding at stepOf finishOf finish workOf presentOf decoded doneWith fetchOf placeOf codeOf
 stops-2 = rw (program-length, program-first)
 
 -- and where the field is empty it cannot begin
-pub stops-0 : stepOf (at 0 0 0) program ≡ out (MonitorFetch (addr 0)) (at 0 0 0) program
+pub stops-0 : stepOf (at 0 0 0) program ≡ out (MonitorFetch (addr 0)) Clean (at 0 0 0) program
 unfolding at stepOf finishOf finish workOf presentOf doneWith fetchOf placeOf noParcel
 stops-0 = refl

@@ -10,13 +10,14 @@ use lib.Dec.{eqb}
 use lib.Pow.{pow-pos, low}
 use lib.Count.{leadingZeros, ones-ones}
 use Rattle.machine.specs.declared.Fetched.the-variants.{Parcel}
+use Rattle.machine.specs.declared.Stray.the-variants.{Clean}
 use Rattle.machine.specs.Word.{pick, sum24, difference24, product24, shiftRight, shiftLeftPair, shiftRightPair, onesRight, parity, lengthOf}
 use Rattle.machine.specs.Parcel.{gOf, hOf, iOf, jOf, kOf, jkOf, onward}
 use Rattle.machine.specs.State.{Frame, Registers, sharing, user, aj, ak, si, sj, el, ToV, apply, withA, withS, control}
 use Rattle.machine.specs.Memory.{fetchOf}
 use Rattle.machine.specs.Act.{before, act}
 use Rattle.machine.specs.Codes.{codeOf, code002}
-use Rattle.machine.specs.Work.{decoded, Done, done, past, perform, statusOf, doneWith}
+use Rattle.machine.specs.Work.{decoded, Done, donePast, perform, statusOf, doneWith}
 use Rattle.access.specs.Executed.{FrameOk, ControlOk}
 use Rattle.laws.proofs.Kept.{own-lt}
 
@@ -30,7 +31,7 @@ does fr r p mem x = doneWith fr r p (sharing mem) (decoded fr mem p x (codeOf (u
 
 -- P goes on by n parcels, and nothing else changes but the registers
 abbrev pub leaves : ℕ → List ℕ → Registers → Done
-leaves n mem r = done (past n) r (sharing mem)
+leaves n mem r = donePast n Clean r (sharing mem)
 
 abbrev pub setA : Registers → ℕ → ℕ → Registers
 setA r i x = withA r (set (r .a) i x)

@@ -3,23 +3,29 @@
 use Prim.Native.Nat.{ℕ}
 use mathlib.Core.Path.{_≡_, refl, ap, fun-ext}
 use mathlib.Core.Logic.{inl, inr}
+use mathlib.Core.Bool.{Bool, true, false, _&&_}
 use mathlib.Core.List.{List}
 use lib.ListN.{length}
+use lib.Dec.{eqb}
 use Rattle.machine.specs.declared.ParcelAddr.{ParcelAddr}
 use Rattle.machine.specs.declared.Fetched.{Fetched}
 use Rattle.machine.specs.declared.Fetched.the-variants.{Parcel, Outside}
+use Rattle.machine.specs.declared.Stray.{Stray}
+use Rattle.machine.specs.declared.Stray.the-variants.{Clean}
 use Rattle.machine.specs.declared.Work.{Work}
-use Rattle.machine.specs.declared.Work.the-variants.{PastOne, PastTwo, To, NormalExit, ErrorExit, OperandRange, ProgramRange, NotHeld, MonitorFetch}
+use Rattle.machine.specs.declared.Work.the-variants.{PastOne, PastTwo, To, NormalExit, ErrorExit, StrayedOne, StrayedTwo, ProgramRange, NotHeld, MonitorFetch}
 use Rattle.machine.specs.declared.Answer.the-variants.{Stepped}
+use Rattle.machine.specs.Word.{pick}
 use Rattle.machine.specs.Parcel.{onward}
-use Rattle.machine.specs.State.{Frame, Registers, State, Shared, user, apply}
-use Rattle.machine.specs.Memory.{dataField, anyOutside, fetchOf}
+use Rattle.machine.specs.State.{Frame, Registers, State, Shared, addr, user, apply}
+use Rattle.machine.specs.Memory.{dataField, firstOutside, fetchOf}
 use Rattle.machine.specs.Act.{Act, Does, Goes, Reads, Writes, LeavesNormally, LeavesByError, act}
 use Rattle.machine.specs.Codes.{Code, None, One, Two, codeOf}
 use Rattle.machine.specs.Work as present
 use Rattle.machine.specs.Work.{Present, NoParcel, Has, withParcel, decoded, presentOf, Done, done}
-use Rattle.machine.specs.Work.{outside, ranged, perform, noParcel, statusOf, doneWith, workOf}
-use Rattle.machine.specs.Step.{exchange, stepped, finish, finishOf, stepOf}
+use Rattle.machine.specs.Work.{past, outside, perform, noParcel, statusOf, doneWith, workOf}
+use Rattle.machine.specs.Exchange.{operandRange}
+use Rattle.machine.specs.Step.{exchange, stepped, ranged, finish, finishOf, stepOf}
 use Rattle.laws.proofs.Laws.{work-all}
 use Rattle.theorems.proofs.Answers.{distinct}
 use Rattle.theorems.specs.Statement.{In, Own, Agree}
@@ -39,25 +45,27 @@ present-same fr m m' fetched p = rw (fetched p) (go (fetchOf fr m' p))
     go Outside = refl
     go (Parcel x) = parcel x (codeOf (user fr) x)
 
--- two works that end alike with the same registers, and memories that agree where P holds
+-- two works that end alike with the same stray and registers, and memories that agree where P holds
 pub record Same (P : ℕ → Type 0) (d d' : Done) : Type 0 where
   pub work : d .work ≡ d' .work
+  pub stray : d .stray ≡ d' .stray
   pub registers : d .registers ≡ d' .registers
   pub mem : Agree P (d .shared .mem) (d' .shared .mem)
 
 -- the work in two memories that agree on the two fields, and perhaps on more
 module _ (fr : Frame) (r : Registers) (P : ℕ → Type 0) (len : ℕ) (own : (w : ℕ) → Own fr len w → P w)
     (sh sh' : Shared) (long : length (sh .mem) ≡ len) (h : Agree P (sh .mem) (sh' .mem)) where
-  idle-same : (w : Work) → Same P (done w r sh) (done w r sh')
-  idle-same w = record { work = refl; registers = refl; mem = h }
+  idle-same : (w : Work) → Same P (done w Clean r sh) (done w Clean r sh')
+  idle-same w = record { work = refl; stray = refl; registers = refl; mem = h }
 
   perform-same : (parcels : ℕ) (a : Act) → Same P (perform fr r parcels sh a) (perform fr r parcels sh' a)
   unfolding perform outside
-  perform-same parcels (Does put) = record { work = refl; registers = refl; mem = h }
-  perform-same parcels (Goes q put) = record { work = refl; registers = refl; mem = h }
+  perform-same parcels (Does put) = record { work = refl; stray = refl; registers = refl; mem = h }
+  perform-same parcels (Goes q put) = record { work = refl; stray = refl; registers = refl; mem = h }
   perform-same parcels (Reads n at put) =
       record {
-        work = ap (λ (l : ℕ). ranged (user fr) (r .ior) parcels (anyOutside (dataField fr) at l n)) (h .long);
+        work = ap (λ (l : ℕ). past parcels (firstOutside (dataField fr) at l n)) (h .long);
+        stray = ap (λ (l : ℕ). firstOutside (dataField fr) at l n) (h .long);
         registers =
             ap (λ (word : ℕ → ℕ). apply (put word) r)
             (fun-ext (λ e. load-agree (dataField fr) len (sh .mem) (sh' .mem) (at e) long (weaken (λ w q. own w (inr q)) h)));
@@ -65,7 +73,8 @@ module _ (fr : Frame) (r : Registers) (P : ℕ → Type 0) (len : ℕ) (own : (w
       }
   perform-same parcels (Writes n at val) =
       record {
-        work = ap (λ (l : ℕ). ranged (user fr) (r .ior) parcels (anyOutside (dataField fr) at l n)) (h .long);
+        work = ap (λ (l : ℕ). past parcels (firstOutside (dataField fr) at l n)) (h .long);
+        stray = ap (λ (l : ℕ). firstOutside (dataField fr) at l n) (h .long);
         registers = refl;
         mem = stores-agree (dataField fr) at val n (sh .mem) (sh' .mem) h;
       }
@@ -100,50 +109,66 @@ pub work-only : (fr : Frame) (r : Registers) (p len : ℕ) (sh : Shared) → len
     → Only (In (dataField fr) len) (sh .mem) (workOf fr r p sh .shared .mem)
 work-only fr r p len sh e =
     work-all fr r p sh (λ d. Only (In (dataField fr) len) (sh .mem) (d .shared .mem))
-    (λ n x m parcels h l. perform-only fr r parcels len sh _ e) (itself (sh .mem)) (itself (sh .mem))
+    (λ n x m parcels h. perform-only fr r parcels len sh _ e) (itself (sh .mem)) (itself (sh .mem))
 
 -- a step that stepped is its work, and P goes to q
-abbrev GoesTo : State → Work → Registers → Type 0
-GoesTo x w r = (q : ParcelAddr) × ((sh : Shared) → finish x w r sh ≡ stepped (x .frame) r q sh)
+abbrev GoesTo : State → Work → Stray → Registers → Type 0
+GoesTo x w s r = (q : ParcelAddr) × ((sh : Shared) → finish x w s r sh ≡ stepped (x .frame) r q s sh)
 
-finish-next : (x : State) (w : Work) (r : Registers) (sh : Shared) → finish x w r sh .answer ≡ Stepped → GoesTo x w r
+-- an operand outside may end it, as the mode and IOR say
+ranged-next : (fr : Frame) (r : Registers) (p : ℕ) (s : Stray) (sh : Shared) → ranged fr r p s sh .answer ≡ Stepped
+    → (i : Shared) → ranged fr r p s i ≡ stepped fr r (addr p) s i
+unfolding ranged exchange
+ranged-next fr r p s sh e i = go (user fr && eqb (r .ior) 1) e
+  where
+    go : (t : Bool) → pick t (exchange fr r p operandRange s sh) (stepped fr r (addr p) s sh) .answer ≡ Stepped
+        → pick t (exchange fr r p operandRange s i) (stepped fr r (addr p) s i) ≡ stepped fr r (addr p) s i
+    go true e = absurd (distinct (cc))
+    go false e = refl
+
+finish-next : (x : State) (w : Work) (s : Stray) (r : Registers) (sh : Shared) → finish x w s r sh .answer ≡ Stepped → GoesTo x w s r
 unfolding finish exchange
-finish-next x PastOne r sh e = (_, λ s. refl)
-finish-next x PastTwo r sh e = (_, λ s. refl)
-finish-next x (To q) r sh e = (q, λ s. refl)
-finish-next x NormalExit r sh e = absurd (distinct (cc))
-finish-next x ErrorExit r sh e = absurd (distinct (cc))
-finish-next x (OperandRange n) r sh e = absurd (distinct (cc))
-finish-next x ProgramRange r sh e = absurd (distinct (cc))
-finish-next x NotHeld r sh e = absurd (distinct (cc))
-finish-next x MonitorFetch r sh e = absurd (distinct (cc))
+finish-next x PastOne s r sh e = (_, λ i. refl)
+finish-next x PastTwo s r sh e = (_, λ i. refl)
+finish-next x StrayedOne s r sh e = (_, ranged-next (x .frame) r (onward (x .p .0) 1) s sh e)
+finish-next x StrayedTwo s r sh e = (_, ranged-next (x .frame) r (onward (x .p .0) 2) s sh e)
+finish-next x (To q) s r sh e = (q, λ i. refl)
+finish-next x NormalExit s r sh e = absurd (distinct (cc))
+finish-next x ErrorExit s r sh e = absurd (distinct (cc))
+finish-next x ProgramRange s r sh e = absurd (distinct (cc))
+finish-next x NotHeld s r sh e = absurd (distinct (cc))
+finish-next x MonitorFetch s r sh e = absurd (distinct (cc))
 
 abbrev workAt : State → Shared → Done
 workAt x sh = workOf (x .frame) (x .registers) (x .p .0) sh
 
-step-next : (x : State) (sh : Shared) → stepOf x sh .answer ≡ Stepped → GoesTo x (workAt x sh .work) (workAt x sh .registers)
+abbrev Next : State → Shared → Type 0
+Next x sh = GoesTo x (workAt x sh .work) (workAt x sh .stray) (workAt x sh .registers)
+
+step-next : (x : State) (sh : Shared) → stepOf x sh .answer ≡ Stepped → Next x sh
 unfolding stepOf finishOf
-step-next x sh e = finish-next x (workAt x sh .work) (workAt x sh .registers) (workAt x sh .shared) e
+step-next x sh e = finish-next x (workAt x sh .work) (workAt x sh .stray) (workAt x sh .registers) (workAt x sh .shared) e
 
 -- from what is shared as sh' too, where the work ends alike
-step-work : (x : State) (sh sh' : Shared) (n : GoesTo x (workAt x sh .work) (workAt x sh .registers))
-    → workAt x sh .work ≡ workAt x sh' .work → workAt x sh .registers ≡ workAt x sh' .registers
-    → stepOf x sh' ≡ stepped (x .frame) (workAt x sh .registers) (n .0) (workAt x sh' .shared)
+step-work : (x : State) (sh sh' : Shared) (n : Next x sh) → workAt x sh .work ≡ workAt x sh' .work
+    → workAt x sh .stray ≡ workAt x sh' .stray → workAt x sh .registers ≡ workAt x sh' .registers
+    → stepOf x sh' ≡ stepped (x .frame) (workAt x sh .registers) (n .0) (workAt x sh .stray) (workAt x sh' .shared)
 unfolding stepOf finishOf
-step-work x sh sh' n w r = rw (← w, ← r) (n .1 (workAt x sh' .shared))
+step-work x sh sh' n w s r = rw (← w, ← s, ← r) (n .1 (workAt x sh' .shared))
 
 -- so it keeps its frame, and changes only words of the data field
 pub step-frame : (x : State) (sh : Shared) → stepOf x sh .answer ≡ Stepped → stepOf x sh .state .frame ≡ x .frame
-step-frame x sh e = rw (step-work x sh sh (step-next x sh e) refl refl)
+step-frame x sh e = rw (step-work x sh sh (step-next x sh e) refl refl refl)
 
 pub step-only : (x : State) (len : ℕ) (sh : Shared) → length (sh .mem) ≡ len → stepOf x sh .answer ≡ Stepped
     → Only (In (dataField (x .frame)) len) (sh .mem) (stepOf x sh .shared .mem)
 step-only x len sh l e =
-    rw (step-work x sh sh (step-next x sh e) refl refl) (work-only (x .frame) (x .registers) (x .p .0) len sh l)
+    rw (step-work x sh sh (step-next x sh e) refl refl refl) (work-only (x .frame) (x .registers) (x .p .0) len sh l)
 
 -- and it is the same step in a memory that agrees on its fields, and perhaps on more
 pub record SameStep (P : ℕ → Type 0) (x : State) (sh sh' : Shared) : Type 0 where
   pub answer : stepOf x sh' .answer ≡ Stepped
+  pub stray : stepOf x sh' .stray ≡ stepOf x sh .stray
   pub state : stepOf x sh' .state ≡ stepOf x sh .state
   pub mem : Agree P (stepOf x sh .shared .mem) (stepOf x sh' .shared .mem)
 
@@ -152,6 +177,6 @@ pub step-same : (P : ℕ → Type 0) (x : State) (len : ℕ) (sh sh' : Shared) �
 step-same P x len sh sh' own l h e =
     let n = step-next x sh e in
     let s = work-same (x .frame) (x .registers) P len own sh sh' l h (x .p .0) in
-    let t = step-work x sh sh n refl refl in
-    let t' = step-work x sh sh' n (s .work) (s .registers) in
-    record { answer = rw t'; state = rw (t, t'); mem = rw (t, t') (s .mem) }
+    let t = step-work x sh sh n refl refl refl in
+    let t' = step-work x sh sh' n (s .work) (s .stray) (s .registers) in
+    record { answer = rw t'; stray = rw (t, t'); state = rw (t, t'); mem = rw (t, t') (s .mem) }

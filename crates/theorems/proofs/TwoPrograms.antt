@@ -8,12 +8,12 @@ use Rattle.machine.specs.declared.Answer.the-variants.{Stepped}
 use Rattle.machine.specs.declared.Last.the-variants.{Was}
 use Rattle.machine.specs.Word.{sum24, sum64, onesRight}
 use Rattle.machine.specs.State.{State, sharing, addr, apply}
-use Rattle.machine.specs.Memory.{placeOf, load, store, stores, anyOutside, fetchOf}
+use Rattle.machine.specs.Memory.{placeOf, load, store, stores, firstOutside, fetchOf}
 use Rattle.machine.specs.Act.{act}
 use Rattle.machine.specs.Codes.{codeOf}
-use Rattle.machine.specs.Work.{decoded, presentOf, outside, ranged, perform, doneWith, workOf}
+use Rattle.machine.specs.Work.{decoded, presentOf, outside, perform, doneWith, workOf}
 use Rattle.machine.specs.Step.{finish, finishOf, stepOf}
-use Rattle.machine.specs.Run.{zeros, pairEnded, pairOf}
+use Rattle.machine.specs.Run.{zeros, half, pairEnded, pairOf}
 use Rattle.machine.specs.Refusal.{below, registersFit, frameFits, stateFits, memoryFits, pairRefusal}
 use Rattle.machine.specs.Refusal as Refusal
 use Rattle.theorems.specs.Statement.{Apart, together, Smooth, Undisturbed, Demand3}
@@ -59,10 +59,10 @@ apart = record { operands = λ w a b. omega arith; first = λ w a b. omega arith
 -- each of its steps steps, and what it comes to
 pub ends : Smooth schedule first second (sharing memory)
     × (together schedule first second (sharing memory)
-    ≡ pairEnded (Was Stepped) 8 (at 0 0 6 (0 ∷ 5 ∷ 10 ∷ 10 ∷ zeros 4) (zeros 8)) (at 1 2 6 (zeros 8) (0 ∷ 510 ∷ 510 ∷ zeros 5))
+    ≡ pairEnded (Was Stepped) 8 (half (at 0 0 6 (0 ∷ 5 ∷ 10 ∷ 10 ∷ zeros 4) (zeros 8))) (half (at 1 2 6 (zeros 8) (0 ∷ 510 ∷ 510 ∷ zeros 5)))
     (sharing (set (set memory 35 10) 98 510)))
 unfolding memory zeros pairOf stepOf finishOf finish workOf presentOf decoded doneWith fetchOf placeOf perform act apply codeOf
-    load store stores outside anyOutside ranged sum24 sum64 onesRight
+    load store stores outside firstOutside sum24 sum64 onesRight
 ends = ((refl, (refl, (refl, (refl, (refl, (refl, (refl, (refl, tt)))))))), refl)
 
 pub example : Undisturbed schedule first second (sharing memory)

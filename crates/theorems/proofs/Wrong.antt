@@ -6,6 +6,7 @@ use Rattle.machine.specs.declared.ParcelAddr.{ParcelAddr}
 use Rattle.machine.specs.declared.Fetched.the-variants.{Parcel}
 use Rattle.machine.specs.declared.Answer.the-variants.{Stepped, NotHeld, MonitorFetch}
 use Rattle.machine.specs.declared.Reply.the-variants.{Answered}
+use Rattle.machine.specs.declared.Stray.the-variants.{Clean}
 use Rattle.machine.specs.State.{State, Shared, addr}
 use Rattle.machine.specs.Memory.{placeOf, fetchOf}
 use Rattle.machine.specs.Run.{zeros}
@@ -36,12 +37,12 @@ unfolding at stepRefusal firstDue memoryFits stateFits registersFit frameFits be
 allowed-1 = rw program-length
 
 -- the pass cannot be fetched where the field is empty
-outside : stepCall (at 0 0 0) program ≡ replied (Answered (MonitorFetch (addr 0))) (at 0 0 0) program
+outside : stepCall (at 0 0 0) program ≡ replied (Answered (MonitorFetch (addr 0))) Clean (at 0 0 0) program
 unfolding stepCall
 outside = rw (allowed-0, stops-0)
 
 -- else it moves P on
-passes : stepCall (at 1 0 0) program ≡ replied (Answered Stepped) (at 1 0 1) program
+passes : stepCall (at 1 0 0) program ≡ replied (Answered Stepped) Clean (at 1 0 1) program
 unfolding stepCall
 passes = rw (allowed-1, passes-0)
 
@@ -50,10 +51,10 @@ unfolding at fetchOf placeOf
 fetched = rw (program-length, program-first)
 
 module _ (step : Step) (meets : Meets step) where
-  met-0 : step (at 0 0 0) program ≡ replied (Answered (MonitorFetch (addr 0))) (at 0 0 0) program
+  met-0 : step (at 0 0 0) program ≡ replied (Answered (MonitorFetch (addr 0))) Clean (at 0 0 0) program
   met-0 = meets (at 0 0 0) program allowed-0 ∙ outside
 
-  met-1 : step (at 1 0 0) program ≡ replied (Answered Stepped) (at 1 0 1) program
+  met-1 : step (at 1 0 0) program ≡ replied (Answered Stepped) Clean (at 1 0 1) program
   met-1 = meets (at 1 0 0) program allowed-1 ∙ passes
 
   -- a step that always answers that the instruction is not held

@@ -9,10 +9,11 @@ use lib.ListN.{length, getD}
 use Rattle.machine.specs.declared.Answer.the-variants.{Stepped}
 use Rattle.machine.specs.declared.Ending.the-variants as ending
 use Rattle.machine.specs.declared.Last.the-variants as last
+use Rattle.machine.specs.declared.Stray.the-variants.{Clean}
 use Rattle.machine.specs.State.{Frame, State, Shared}
 use Rattle.machine.specs.Memory.{Field, codeField, dataField}
 use Rattle.machine.specs.Step.{stepOf}
-use Rattle.machine.specs.Run.{zeros, Ended, runOf, PairEnded, pairOf}
+use Rattle.machine.specs.Run.{zeros, Ended, runOf, Half, half, PairEnded, pairOf}
 
 -- w is a word of a field in a memory of len words
 abbrev pub In : Field → ℕ → ℕ → Type 0
@@ -55,10 +56,10 @@ oneBytes (suc n) = 1 ∷ oneBytes n
 
 -- a pair run from its beginning, and n steps of one processor alone
 abbrev pub together : List ℕ → State → State → Shared → PairEnded
-together bytes x y sh = pairOf bytes last.Nothing 0 x y sh
+together bytes x y sh = pairOf bytes last.Nothing 0 (half x) (half y) sh
 
 abbrev pub alone : ℕ → State → Shared → Ended
-alone n x sh = runOf n 0 x sh
+alone n x sh = runOf n Clean 0 x sh
 
 -- no step of the schedule exchanges or stops: the processor that a byte names takes a step, and answers that it stepped
 abbrev pub Smooth : List ℕ → State → State → Shared → Type 0
@@ -67,12 +68,13 @@ Smooth (zero ∷ bytes) x y sh = (stepOf x sh .answer ≡ Stepped) × Smooth byt
 Smooth (suc b ∷ bytes) x y sh = (stepOf y sh .answer ≡ Stepped) × Smooth bytes x (stepOf y sh .state) (stepOf y sh .shared)
 
 -- x' and sh' are what n steps of processor x alone leave, from sh: each of them answers Stepped, the budget ends them, the whole
--- state is x', and memory has the same words in the processor's own two fields
-pub record AsAlone (n : ℕ) (x : State) (sh : Shared) (x' : State) (sh' : Shared) : Type 0 where
+-- state and the stray are those of x', and memory has the same words in the processor's own two fields
+pub record AsAlone (n : ℕ) (x : State) (sh : Shared) (x' : Half) (sh' : Shared) : Type 0 where
   pub each : (k : ℕ) → k < n → stepOf (alone k x sh .state) (alone k x sh .shared) .answer ≡ Stepped
   pub ending : alone n x sh .ending ≡ ending.Budget
   pub steps : alone n x sh .steps ≡ n
-  pub state : alone n x sh .state ≡ x'
+  pub state : alone n x sh .state ≡ x' .state
+  pub stray : alone n x sh .stray ≡ x' .stray
   pub fields : Agree (Own (x .frame) (length (sh .mem))) (alone n x sh .shared .mem) (sh' .mem)
 
 -- how the schedule `bytes` ends, from x, y and sh
