@@ -1,4 +1,4 @@
--- But for its stray, every step is what it was before W6. Assumes nothing.
+-- But for its stray, every step is what it was before it had one. Assumes nothing.
 use Prim.Native.Nat.{ℕ, zero, suc, _*_}
 use mathlib.Core.Path.{_≡_, refl, _∙_, ap, fun-ext}
 use mathlib.Core.Bool.{Bool, true, false, _&&_, _||_}

@@ -1,4 +1,4 @@
--- The step as it was before W6, which did not say why an operand lay outside. Assumes nothing.
+-- The step as it was before it told why an operand lay outside. Assumes nothing.
 use Prim.Native.Nat.{ℕ, zero, suc, _*_, _%_, _^_}
 use mathlib.Core.Bool.{Bool, true, false, _&&_, _||_}
 use mathlib.Core.List.{List}
