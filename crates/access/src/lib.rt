@@ -1,4 +1,6 @@
 // The ground of every instruction: places in a processor's words, operands by the digits of a parcel, what is written, fetching, fields.
+#![tactic(auto)]
+
 pub mod words;
 
 ghost use Rattle.std.specs.Prelude.{◌≡◌, ℕ, ◌+◌, ◌*◌, ◌/◌, ◌%◌, ◌^◌, ◌<◌, ◌≤◌, List, length, ◌==◌, slice_index};

@@ -1,4 +1,6 @@
 // The address instructions 020 to 032: one function for each first three digits. A result goes to Ai, but of 025 to Bjk.
+#![tactic(auto)]
+
 ghost use Rattle.std.specs.Prelude.{◌≡◌, ◌/◌, length};
 ghost use Rattle.machine.specs.Word.{pick};
 ghost use Rattle.machine.specs.Layout.{frame_of};

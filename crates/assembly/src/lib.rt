@@ -1,6 +1,8 @@
 // Assembling and listing CAL. A line is guessed from its signs and digits, and the instruction that is guessed is listed again, over
 // a copy of the text: the line is right if that changes nothing. So there is one place that knows how an instruction is spelled, the
 // crate line.
+#![tactic(auto)]
+
 ghost use Rattle.std.specs.Prelude.{◌≡◌, ◌+◌, ◌^◌, ◌≤◌, ◌<◌, length, drop, take, replicate, leb};
 ghost use Rattle.std.proofs.lemmas.List.Edits.{sets};
 ghost use Rattle.machine.specs.Word.{pick};
@@ -14,7 +16,7 @@ ghost use Rattle.assembly.specs.Reads.{Hears, read_as, ReadsAs, Checks, Fits, un
 use spelling::{Assembled, Listed};
 
 // A line as it is guessed: how many bytes it has, 0 if the text has another; of how many parcels; and whether no other may follow.
-#[derive(Drop)]
+#[derive(Clone, Copy)]
 struct Heard {
     bytes: usize,
     parcels: usize,
@@ -22,21 +24,21 @@ struct Heard {
 }
 
 // A line read: how many parcels it stands for, and where the next line starts; or it is bad.
-#[derive(Drop)]
+#[derive(Clone, Copy)]
 enum Read {
     Line { parcels: usize, next: usize },
     NoLine,
 }
 
 // A text looked through: how many parcels it stands for, or how many lines stand before its first bad one.
-#[derive(Drop)]
+#[derive(Clone, Copy)]
 enum Checked {
     Holds(usize),
     Fails(usize),
 }
 
 // A line written: the place after it, and the parcel after its own.
-#[derive(Drop)]
+#[derive(Clone, Copy)]
 struct Next {
     to: usize,
     at: usize,

@@ -1,13 +1,15 @@
 // Assembles the CAL of standard input: to octal, a parcel to a line, or to words of a case sheet from the address that an
 // argument names. One byte more than a text may have is read, so that a longer text is seen to be too long. No line takes fewer
 // than two bytes for each of its parcels, and no answer has more than 7 bytes for each, or 272.
+#![tactic(auto)]
+
 ghost use Rattle.std.specs.Prelude.{◌+◌, ◌*◌, ◌≤◌, length};
 
 use libc::{STDERR_FILENO, STDIN_FILENO, STDOUT_FILENO};
 use octal::Address;
 
 // What the arguments ask for.
-#[derive(Drop)]
+#[derive(Clone, Copy)]
 enum Task {
     Octal,
     Words(u64),

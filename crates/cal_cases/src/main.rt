@@ -1,5 +1,7 @@
 // Answers the stored texts for cal and for listing: the files 0000 to 0460 of data/, each after a line of its number. The first
 // line of a file says for which of the two its text is.
+#![tactic(auto)]
+
 ghost use Rattle.std.specs.Prelude.{◌≡◌, true, ◌≤◌, length};
 
 use libc::STDOUT_FILENO;

@@ -1,4 +1,6 @@
 // The whole answer to a case sheet: read, start, run, report.
+#![tactic(auto)]
+
 ghost use Rattle.std.specs.Prelude.{◌≡◌, ◌≤◌, length};
 ghost use Rattle.machine.specs.declared.Stray.TheVariants.{Clean};
 ghost use Rattle.machine.specs.State.{sharing};

@@ -1,4 +1,6 @@
 // Answers the stored case sheets: the files 0000 to 1499 of data/, each after a line of its number.
+#![tactic(auto)]
+
 use libc::STDOUT_FILENO;
 
 // The four digits of a number below 10,000.

@@ -1,4 +1,6 @@
 // Instructions 000 to 017: exits, XA, VL and the modes, VM, jumps and branches.
+#![tactic(auto)]
+
 ghost use Rattle.std.specs.Prelude.{◌≡◌, true, ◌&&◌, List, ℕ, ◌/◌, ◌%◌, ◌^◌, ◌<◌, length, eqb, ltb};
 ghost use Rattle.machine.specs.declared.Work.TheVariants.{PastOne, To};
 ghost use Rattle.machine.specs.Word.{pick};
@@ -178,7 +180,7 @@ pub fn return_jump(r: &mut [u64], mem: &[u64], f: Reach, p: ParcelAddr, x: u64) 
 }
 
 // What 010 to 017 test: A0 or S0 zero, not zero, its sign clear, set.
-#[derive(Drop)]
+#[derive(Clone, Copy)]
 pub enum Test {
     ZeroA,
     NonZeroA,

@@ -1,5 +1,7 @@
 // The answers of the programs that assemble CAL and list parcels, over lent text, parcels and bytes. An answer is written at the
 // start of out, as much of it as fits, and each function answers its whole length.
+#![tactic(auto)]
+
 ghost use Rattle.std.specs.Prelude.{◌≡◌, ◌+◌, ◌*◌, ◌≤◌, ◌<◌, length};
 ghost use Rattle.text.specs.Digits.{digits};
 ghost use Rattle.text.specs.Report.{Wrote};
@@ -15,14 +17,14 @@ use spelling::{Assembled, Listed};
 const LONGEST: usize = 1048576;
 
 // What a text gives: so many parcels, or a refusal of so many bytes.
-#[derive(Drop)]
+#[derive(Clone, Copy)]
 pub enum Input {
     Holds(usize),
     Refused(usize),
 }
 
 // How many bytes a line has, and how many parcels it takes.
-#[derive(Drop)]
+#[derive(Clone, Copy)]
 pub struct Wide {
     pub bytes: usize,
     pub parcels: usize,

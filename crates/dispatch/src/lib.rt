@@ -1,5 +1,7 @@
 // The work of a step: fetch, and one jump table over the first three digits of the parcel, 000 to 177. The table is a chain of functions
 // whose last arm hands on to the next, which the compiler joins; each has one call.
+#![tactic(auto)]
+
 ghost use Rattle.std.specs.Prelude.{◌≡◌, true, List, ℕ, ◌/◌, ◌^◌, ◌<◌, ◌≤◌, length};
 ghost use Rattle.machine.specs.declared.Work.TheVariants.{PastOne, NotHeld};
 ghost use Rattle.machine.specs.Word.{pick};

@@ -1,4 +1,6 @@
 // Packages: what an exchange saves and loads. Package x is the sixteen words of memory from 16x on.
+#![tactic(auto)]
+
 ghost use Rattle.std.specs.Prelude.{◌≡◌, ◌*◌, ◌^◌, ◌<◌, ◌≤◌, length, get_or};
 ghost use Rattle.machine.specs.declared.Stray.{Stray};
 ghost use Rattle.machine.specs.declared.Answer.TheVariants.{Exchanged};

@@ -1,5 +1,7 @@
 // The public functions for C and Rust, but for a pair run: numbers, slices and fixed arrays. A processor is 672 words, in the places that
 // machine/specs/Layout.antt gives; they are worked on where they stand. A refused call alters nothing.
+#![tactic(auto)]
+
 ghost use Rattle.std.specs.Prelude.{◌≡◌, [], ◌∷◌};
 ghost use Rattle.machine.specs.State.{sharing};
 ghost use Rattle.machine.specs.Call.{start_call, step_call, turn_call, run_call};

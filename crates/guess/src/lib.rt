@@ -1,5 +1,7 @@
 // A guess at the parcels that a line stands for: the signs at a few places tell its row, and the row tells where its digits stand.
 // A guess reads within 32 bytes, and no test of a place is needed where a text has as many left.
+#![tactic(auto)]
+
 ghost use Rattle.std.specs.Prelude.{◌≡◌, ◌+◌, ◌^◌, ◌≤◌, ◌<◌, length, drop};
 ghost use Rattle.spelling.specs.Candidate.{bytes_of, told, line_aa, line_a, line_ss, line_s, line_vs, line_vv, line_vm, line_vi, line_v, line_e};
 ghost use Rattle.spelling.specs.Candidate.{line_c, jumps, line_j, line_d, line_comma, line_sign, number_at, code_row, digit_row, row_seen, plan_of};
@@ -119,7 +121,7 @@ const PLANS: [u16; 864] = [
 ];
 
 // A number read, and the place after it.
-#[derive(Drop)]
+#[derive(Clone, Copy)]
 struct Numeral {
     value: u64,
     end: usize,

@@ -1,4 +1,6 @@
 // The line of an instruction: its row in the table of forms, its operands, its text.
+#![tactic(auto)]
+
 ghost use Rattle.std.specs.Prelude.{◌≡◌, ◌++◌, ◌+◌, ◌%◌, ◌≤◌, ◌<◌, length, get_or, drop};
 ghost use Rattle.text.specs.Digits.{glyph_of, digits, shown};
 ghost use Rattle.text.specs.Report.{Wrote};
@@ -573,7 +575,7 @@ fn put_operand(line: &mut [u8], at: usize, op: Operand) -> usize
 }
 
 // Where a line is cut to take an operand: the next place of the line, and of the table of forms.
-#[derive(Drop)]
+#[derive(Clone, Copy)]
 struct Cut {
     at: usize,
     from: usize,

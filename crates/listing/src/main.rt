@@ -1,6 +1,8 @@
 // Lists the octal parcels of standard input as CAL; with -w and the address of the first, each line after its address and its
 // parcels. One byte more than a text may have is read, so that a longer text is seen to be too long. A text has at most 149,796
 // parcels, and a line of CAL at most 16 bytes.
+#![tactic(auto)]
+
 ghost use Rattle.std.specs.Prelude.{◌≤◌, ◌<◌, length};
 
 use desk::Input;
@@ -8,7 +10,7 @@ use libc::{STDERR_FILENO, STDIN_FILENO, STDOUT_FILENO};
 use octal::Address;
 
 // What the arguments ask for.
-#[derive(Drop)]
+#[derive(Clone, Copy)]
 enum Task {
     Narrow,
     Wide(u64),

@@ -1,4 +1,6 @@
 // Operands in memory: single words here, blocks of B and T and vectors in `blocks`; which of them lay outside, in `strays`.
+#![tactic(auto)]
+
 pub mod blocks;
 mod operands;
 pub mod strays;
@@ -14,7 +16,7 @@ ghost use Rattle.memory.specs.Moves.{load_code, store_code, register_of, to_regi
 use machine::{Fetched, ParcelAddr, Reach, Work};
 
 // The registers that are loaded and stored one at a time.
-#[derive(Drop)]
+#[derive(Clone, Copy)]
 pub enum File {
     A,
     S,

@@ -7,7 +7,7 @@ ghost use Rattle.access.specs.Executed.{cut_to};
 ghost use Rattle.memory.specs.Moves.{Held, ReadRow, StoredRow, straight_of};
 
 // A word, and whether it lies outside its window, where it is zero.
-#[derive(Drop)]
+#[derive(Clone, Copy)]
 pub struct Got(pub u64, pub bool);
 
 // The word at an address.
@@ -51,7 +51,7 @@ fn copy(to: &mut [u64], first: usize, from: &[u64], at: usize, n: usize, narrow:
 }
 
 // n registers of the file at a place, from `reg` on, which returns to 0 past 63; and how far apart their words are.
-#[derive(Drop)]
+#[derive(Clone, Copy)]
 pub struct Row {
     pub file: usize,
     pub reg: usize,

@@ -1,4 +1,6 @@
 // The answers of the library as numbers: that of a refusal, 0 for none; the kind; its value. And a stray: the cause, 0 for none; its element.
+#![tactic(auto)]
+
 ghost use Rattle.std.specs.Prelude.{◌≡◌, ◌∷◌};
 ghost use Rattle.machine.specs.Call.{answer_numbers, reply_numbers, ending_numbers, last_numbers, cause_number, stray_numbers};
 ghost use Rattle.numbers.specs.Left.{three_of};

@@ -1,4 +1,6 @@
 // Parcels as octal text and as the words of a case sheet, the text of a refusal, and the addresses that arguments spell.
+#![tactic(auto)]
+
 ghost use Rattle.std.specs.Prelude.{◌≡◌, ◌+◌, ◌*◌, ◌/◌, ◌≤◌, ◌<◌, length, get_or};
 ghost use Rattle.std.proofs.lemmas.List.Edits.{sets};
 ghost use Rattle.text.specs.Report.{Wrote, decimal_line};
@@ -8,7 +10,7 @@ ghost use Rattle.octal.specs.Words.{word_at, word_text, words_text};
 ghost use Rattle.octal.specs.Refusals.{refused_text, refused_line};
 
 // What a text of parcels was read as: so many parcels; or its first bad line; or more parcels than there is room for.
-#[derive(Drop)]
+#[derive(Clone, Copy)]
 pub enum Reading {
     Parcels(usize),
     BadLine(usize),
@@ -16,7 +18,7 @@ pub enum Reading {
 }
 
 // What an argument spells: an address, or none.
-#[derive(Drop)]
+#[derive(Clone, Copy)]
 pub enum Address {
     At(u64),
     NoAddress,

@@ -1,5 +1,7 @@
 // A pair run for C and Rust. It is a library of its own, compiled apart from a run's: each then has the code of a step in its own loop.
 // A pair is 1,344 words, the first processor's before the second's, worked on where they stand. A refused call alters nothing.
+#![tactic(auto)]
+
 ghost use Rattle.std.specs.Prelude.{◌≡◌, [], ◌∷◌};
 ghost use Rattle.machine.specs.State.{sharing};
 ghost use Rattle.machine.specs.Call.{pair_call};

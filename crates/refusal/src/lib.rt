@@ -1,4 +1,6 @@
 // The refusal numbers, each call checking its own in their order; 0 is none.
+#![tactic(auto)]
+
 ghost use Rattle.std.specs.Prelude.{◌≡◌, length};
 ghost use Rattle.machine.specs.Refusal.{memory_fits, state_fits, start_refusal, step_refusal, run_refusal, pair_refusal};
 ghost use Rattle.machine.specs.Layout.{state_of, first_of, second_of};

@@ -1,4 +1,6 @@
 // The S register instructions, 040 to 077: constants and sums here; logic, shifts and transmits each in a module.
+#![tactic(auto)]
+
 pub mod logic;
 pub mod shift;
 pub mod transmit;

@@ -1,8 +1,9 @@
 // CAL: the operands of an instruction, and what assembling and listing answer.
+#![tactic(auto)]
 
 // An operand: a register by its letter and its number, wide if its name has two octal digits; a constant; or an indexed memory
 // place, `exp,Ah`.
-#[derive(Drop)]
+#[derive(Clone, Copy)]
 pub enum Operand {
     Register { letter: u8, number: u64, wide: bool },
     Constant(u64),
@@ -10,7 +11,7 @@ pub enum Operand {
 }
 
 // An instruction: the row of the table that spells it, and its operands in the order of its line.
-#[derive(Drop)]
+#[derive(Clone, Copy)]
 pub enum Instruction {
     Bare(usize),
     OfOne(usize, Operand),
@@ -20,7 +21,7 @@ pub enum Instruction {
 }
 
 // What a text assembled to: so many parcels; or its first bad line; or more parcels than there is room for.
-#[derive(Drop)]
+#[derive(Clone, Copy)]
 pub enum Assembled {
     Parcels(usize),
     BadLine(usize),
@@ -28,7 +29,7 @@ pub enum Assembled {
 }
 
 // What parcels were listed as: so many bytes, or more than there is room for.
-#[derive(Drop)]
+#[derive(Clone, Copy)]
 pub enum Listed {
     Bytes(usize),
     TooLong,

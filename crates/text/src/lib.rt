@@ -1,4 +1,6 @@
 // The case sheet: its reader and its report, over lent bytes and words.
+#![tactic(auto)]
+
 ghost use Rattle.std.specs.Prelude.{◌≡◌, ◌+◌, ◌*◌, ◌≤◌, ◌<◌, length, set};
 ghost use Rattle.std.proofs.lemmas.List.Edits.{sets};
 ghost use Rattle.machine.specs.Layout.{registers_of, frame_of, state_of};
@@ -13,21 +15,21 @@ ghost use Rattle.text.specs.Report.{report_of, refused_of, Wrote};
 use machine::{Cause, Ending, Stray};
 
 // What a line of a name and a number says: the number, and where the next line starts; or the line is bad.
-#[derive(Drop)]
+#[derive(Clone, Copy)]
 enum Head {
     Says { number: u64, next: usize },
     Wrong,
 }
 
 // A sheet looked through: its steps, how many words and where their lines start; or its first bad line.
-#[derive(Drop)]
+#[derive(Clone, Copy)]
 enum Checked {
     Passed { steps: u64, words: usize, at: usize },
     Failed(u64),
 }
 
 // What a sheet says: its steps, or its first bad line.
-#[derive(Drop)]
+#[derive(Clone, Copy)]
 pub enum Sheet {
     Good(u64),
     Bad(u64),

@@ -1,4 +1,6 @@
 // Steps taken together on lent words: a burst while each only steps, a turn that finishes the one that does more.
+#![tactic(auto)]
+
 pub mod pair;
 pub mod run;
 
@@ -27,7 +29,7 @@ const PROGRAM_RANGE: u64 = 4;
 const OPERAND_RANGE: u64 = 8;
 
 // Where P goes after work that only steps, or that it does more.
-#[derive(Drop)]
+#[derive(Clone, Copy)]
 pub enum Moved {
     At(ParcelAddr),
     Ends,
@@ -52,7 +54,7 @@ fn move_p(p: ParcelAddr, w: Work) -> Moved
 }
 
 // How far a burst came: P, its steps, and how the work of the next ended, if it has one.
-#[derive(Drop)]
+#[derive(Clone, Copy)]
 pub struct Burst {
     pub p: ParcelAddr,
     pub steps: u64,
@@ -187,7 +189,7 @@ fn last_after(n: u64) -> Last
 }
 
 // Whether an operand of a step's work lay outside, and of how many parcels its instruction is.
-#[derive(Drop)]
+#[derive(Clone, Copy)]
 pub enum Strays {
     None,
     One,
@@ -213,7 +215,7 @@ fn strays_of(w: Work) -> Strays
 
 // What a burst came to after so many steps: its budget is spent; an operand of the next step, at p, lay outside, and that step has still to
 // end; or the next step has ended. What is looked for after a stray stays so outside the loop of steps.
-#[derive(Drop)]
+#[derive(Clone, Copy)]
 pub enum Came {
     Spent(u64),
     StrayedOne { steps: u64, p: ParcelAddr },
@@ -248,7 +250,7 @@ fn stretch(r: &mut [u64], mem: &mut [u64], budget: u64) -> Came
 }
 
 // The last answer of steps taken together; the stray of the last that had one; and how many of them stepped or exchanged.
-#[derive(Drop)]
+#[derive(Clone, Copy)]
 pub struct Turned {
     pub last: Last,
     pub stray: Stray,

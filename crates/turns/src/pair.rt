@@ -76,7 +76,7 @@ fn finish_at(pair: &mut [u64], mem: &mut [u64], at: usize, p: ParcelAddr, w: Wor
 }
 
 // The processor whose step is next: where its words start, its P, what it reaches, and the byte that named it.
-#[derive(Drop)]
+#[derive(Clone, Copy)]
 pub struct Next {
     pub at: usize,
     pub p: ParcelAddr,
@@ -108,7 +108,7 @@ fn pass(pair: &mut [u64], first: Reach, second: Reach, from: Next, byte: u8) -> 
 }
 
 // How far a pair's burst came: whose step is next, its P, the steps, and how the work of the next ended, if it has one.
-#[derive(Drop)]
+#[derive(Clone, Copy)]
 pub struct PairBurst {
     pub at: usize,
     pub p: ParcelAddr,
@@ -167,7 +167,7 @@ fn take(pair: &mut [u64], mem: &mut [u64], schedule: &[u8], from: usize) -> Pair
 }
 
 // The strays of the two processors.
-#[derive(Drop)]
+#[derive(Clone, Copy)]
 pub struct Told {
     pub first: Stray,
     pub second: Stray,
@@ -193,7 +193,7 @@ fn newer(strays: Told, at: usize, stray: Stray) -> Told
 }
 
 // The last answer of a pair run; for each processor the stray of its own last step that had one; and how many steps stepped or exchanged.
-#[derive(Drop)]
+#[derive(Clone, Copy)]
 pub struct Paired {
     pub last: Last,
     pub strays: Told,

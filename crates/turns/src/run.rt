@@ -9,7 +9,7 @@ ghost use Rattle.turns.specs.Turn.{Fitting, last_ending};
 use machine::{Answer, Ending, Last, Stray};
 
 // How a run ended; the stray of its last step that had one; and how many of its steps stepped or exchanged.
-#[derive(Drop)]
+#[derive(Clone, Copy)]
 pub struct Ran {
     pub ending: Ending,
     pub stray: Stray,

@@ -1,5 +1,7 @@
 // Vector instructions 140 to 157, 174 and 175. Each loop goes over as many elements as VL says, and an element that it has not
 // reached reads as it stood before the instruction: so Vi may be an operand too.
+#![tactic(auto)]
+
 ghost use Rattle.std.specs.Prelude.{◌≡◌, ◌⊎◌, true, ◌+◌, ◌-◌, ◌*◌, ◌/◌, ◌^◌, ◌<◌, ◌≤◌, length};
 ghost use Rattle.machine.specs.declared.Work.TheVariants.{PastOne, NotHeld};
 ghost use Rattle.machine.specs.Word.{pick};
@@ -12,7 +14,7 @@ ghost use Rattle.vector.specs.Element.{two_of, one_of, test_of, code_of_two, One
 use access::{V, VM};
 
 // What is made of two words.
-#[derive(Drop)]
+#[derive(Clone, Copy)]
 pub enum TwoWords {
     And,
     Or,
@@ -22,7 +24,7 @@ pub enum TwoWords {
 }
 
 // What is made of one word, shifts by a count.
-#[derive(Drop)]
+#[derive(Clone, Copy)]
 pub enum OneWord {
     Left,
     Right,
@@ -31,7 +33,7 @@ pub enum OneWord {
 }
 
 // What 175 asks of a word.
-#[derive(Drop)]
+#[derive(Clone, Copy)]
 pub enum Test {
     Zero,
     NonZero,

@@ -1,5 +1,7 @@
 // The public functions: a start, a step, a turn, a run, a pair run. A processor is 672 lent words (machine/specs/Layout.antt), worked on in
 // place. No caller is relied on: each call does its work, or refuses by a number with all as it was.
+#![tactic(auto)]
+
 ghost use Rattle.std.specs.Prelude.{◌≡◌, ◌++◌};
 ghost use Rattle.machine.specs.State.{sharing};
 ghost use Rattle.machine.specs.Run.{turned, ended, half_with, pair_ended};
@@ -39,7 +41,7 @@ fn reply_of(last: Last) -> Reply
 }
 
 // What a step gives: its answer, or the number of its refusal; and its stray.
-#[derive(Drop)]
+#[derive(Clone, Copy)]
 pub struct Replied {
     pub reply: Reply,
     pub stray: Stray,
