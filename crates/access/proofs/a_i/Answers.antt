@@ -1,0 +1,6 @@
+use Rattle.std.proofs.Common.{sym, arith, rules}
+use Rattle.access.proofs.Places.{a_at}
+use Rattle.access.proofs.a_i.Goals as goal
+
+pub returns : goal.returns
+returns c = rw (← c.i.ensures) (sym (a_at _ _ (omega arith)))

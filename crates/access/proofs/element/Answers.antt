@@ -1,0 +1,6 @@
+use Rattle.std.proofs.Common.{sym, arith, rules}
+use Rattle.access.proofs.Places.{el-at}
+use Rattle.access.proofs.element.Goals as goal
+
+pub returns : goal.returns
+returns c = sym (el-at _ _ _ (omega arith) (omega arith))

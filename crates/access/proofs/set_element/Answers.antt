@@ -1,0 +1,6 @@
+use Rattle.std.proofs.Common.{arith, rules}
+use Rattle.access.proofs.Places.{to-element}
+use Rattle.access.proofs.set_element.Goals as goal
+
+pub returns : goal.returns
+returns c = to-element _ _ _ _ (omega arith) (omega arith)

@@ -1,0 +1,6 @@
+use Rattle.std.proofs.Common.{arith, rules}
+use Rattle.access.proofs.Places.{to-t}
+use Rattle.access.proofs.set_t.Goals as goal
+
+pub returns : goal.returns
+returns c = to-t _ _ _ (omega arith)

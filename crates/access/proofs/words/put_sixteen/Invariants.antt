@@ -1,0 +1,10 @@
+use Rattle.std.proofs.Common.{◌≡◌, ◌-◌, ◌≤◌, length, get_or, refl, arith, length-set, rules}
+use Rattle.machine.specs.State.{fill}
+use Rattle.access.proofs.Places.{fill-turn}
+use Rattle.access.proofs.words.put_sixteen.Given as goal
+
+abbrev pub invariant-loop-n : goal.invariant-loop-n
+invariant-loop-n l = (l.n ≤ 16) × (length l.to ≡ length l.initial.to) × (l.to ≡ fill l.first (λ i. get_or l.w i 0) l.n l.initial.to)
+
+abbrev pub decreases-loop-n : goal.decreases-loop-n
+decreases-loop-n l = 16 - l.n
