@@ -1,0 +1,32 @@
+use mathlib.Core.Path.{◌≡◌, refl, sym, ◌∙◌}
+use Prim.Native.Nat.{◌+◌, ◌*◌, ◌-◌, ◌^◌, ◌≤◌, ◌<◌}
+use native.Mathlib.Nat.{add-zero}
+use native.Mathlib.Omega.{arith}
+use lib.Dec.{lit<}
+use borrow.Author.Tests.{not-true, not-false, eq-eqb, ne_eqb}
+use Rattle.text.specs.Digits.{all_hex, hex_from}
+use Rattle.text.specs.Sheet.{bad_line}
+use Rattle.text.proofs.Reading.{hex-next, hex-done, all-next, all-not, all_done, digit-more}
+use Rattle.text.proofs.Reading.{digits-most, no_address, no_value, all_digits, line-bad, line-good}
+use borrow.Author.Rules.{rules}
+use Rattle.text.proofs.bad_line.Given as goal
+
+abbrev pub invariant-loop-d : goal.invariant-loop-d
+invariant-loop-d l =
+    (l.d ≤ 4) × (l.address < 16 ^ l.d) × (all_hex 4 l.text l.at ≡ all_hex (4 - l.d) l.text (l.at + l.d)) × (hex_from 4 l.text l.at 0 ≡ hex_from (4 - l.d) l.text (l.at + l.d) l.address)
+
+abbrev pub decreases-loop-d : goal.decreases-loop-d
+decreases-loop-d l = 4 - l.d
+
+abbrev pub invariant-loop-d-2 : goal.invariant-loop-d-2
+invariant-loop-d-2 l = (5 ≤ l.d) × (l.d ≤ 21) × (all_hex 16 l.text (l.at + 5) ≡ all_hex (21 - l.d) l.text (l.at + l.d))
+
+abbrev pub decreases-loop-d-2 : goal.decreases-loop-d-2
+decreases-loop-d-2 l = 21 - l.d
+
+abbrev pub invariant-lines : goal.invariant-lines
+invariant-lines l =
+    (l.left ≤ l.count) × (l.at + 22 * l.left ≡ l.start + 22 * l.count) × (l.line + l.left ≡ l.count + 3) × (bad_line l.count l.text l.start 0 3 ≡ bad_line l.left l.text l.at l.low l.line)
+
+abbrev pub decreases-lines : goal.decreases-lines
+decreases-lines l = l.left

@@ -1,0 +1,16 @@
+use mathlib.Core.Path.{◌≡◌, refl, sym, ◌∙◌}
+use Prim.Native.Nat.{◌≤◌}
+use native.Mathlib.Nat.{mod-lt, lt_of_lt_of_le}
+use native.Mathlib.Omega.{arith}
+use lib.ListN.{length}
+use lib.Seq.{sets}
+use Rattle.text.specs.Digits.{digits}
+use Rattle.text.proofs.Writing.{digits-next, digits-done}
+use borrow.Author.Rules.{rules}
+use Rattle.text.proofs.put_digits.Given as goal
+
+abbrev pub invariant-loop-i : goal.invariant-loop-i
+invariant-loop-i l = (l.i ≤ l.k) × (length l.out ≡ length l.initial.out) × (sets l.initial.out l.at (digits l.base l.k l.n) ≡ sets l.out l.at (digits l.base l.i l.rest))
+
+abbrev pub decreases-loop-i : goal.decreases-loop-i
+decreases-loop-i l = l.i
