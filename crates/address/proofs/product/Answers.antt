@@ -1,0 +1,16 @@
+use Rattle.machine.specs.Act.{product_a, act}
+use Rattle.machine.specs.Codes.{code_of}
+use Rattle.access.proofs.Leaf.{puts}
+use borrow.Author.Rules.{rules}
+use Rattle.address.proofs.product.Goals as goal
+
+pub returns : goal.returns
+unfolding code_of act
+returns c =
+    λ p mem. puts product_a _ _ _ _ mem p _ c.put_a.ensures
+    (rw c.requires.1)
+    (rw (
+      c.product_24.ensures,
+      c.a_j.ensures,
+      c.a_k.ensures,
+    ))

@@ -1,0 +1,49 @@
+use Rattle.std.proofs.Common.{◌≡◌, ℕ, ◌+◌, ◌-◌, ◌*◌, ◌%◌, ◌^◌, ◌≤◌, List, length, refl, arith, rules}
+use Rattle.access.specs.Window.{load_in}
+use Rattle.access.specs.Executed.{cut_to, ring_at}
+use Rattle.access.proofs.Rings.{ring-turn}
+use Rattle.memory.specs.Moves.{row_in, any_beyond}
+use Rattle.memory.proofs.Rows.{same_place, next_address, beyond-turn, straight-known, straight-inside, straight-read}
+use Rattle.memory.proofs.operands.read.Goals as goal
+
+pub copy-requires : goal.copy-requires
+copy-requires c =
+    let k = straight-known _ _ _ _ _ _ c.requires.r_len.2 c.straight-whole.ensures in record {
+        n_value = k.sixteens;
+        by_index = λ e l.
+          (omega (arith, k.registers), omega (arith, c.word_at-w.ensures, c.requires.held.inside (c.a_0-from.result % 2 ^ 22 + e) (k.inside e l)));
+    }
+
+pub loop-e-init : goal.loop-e-init
+loop-e-init c =
+    let k = straight-known _ _ _ _ _ _ c.requires.r_len.2 c.straight-whole.ensures in (
+      k.most,
+      search rules,
+      omega (arith, k.address c.straight-whole.result (omega arith), c.wrapping_add_u64-at.ensures.value),
+      straight-inside c.args.first _ _ _ _ _ _ c.requires.held.short k,
+      λ q h. h,
+    )
+
+pub place-requires : goal.place-requires
+place-requires c =
+    (c.requires.r_len.1, c.requires.r_len.2, omega (arith, c.loop-e-test.true, c.requires.r_len.3))
+
+pub loop-e-preserved : goal.loop-e-preserved
+loop-e-preserved c =
+    let row = row_in c.args.first c.args.words c.a_0-from.result c.args.row.by in
+    let p = same_place c.args.first c.args.words c.loop-e.at (c.a_0-from.result + c.loop-e.e * c.args.row.by) c.loop-e.invariant.2 in (
+      search rules,
+      search rules,
+      rw c.wrapping_add_u64-at-in-loop-e.ensures.value (next_address c.loop-e.at c.a_0-from.result c.loop-e.e c.args.row.by c.loop-e.invariant.2),
+      beyond-turn row c.loop-e.e _ _ c.loop-e.invariant.3 (rw (c.get-got.ensures.1, p)),
+      λ q h. ring-turn c.args.row.file c.args.row.reg (λ i. cut_to c.args.narrow (load_in c.args.mem.now (row i))) c.loop-e.e q c.loop-e.r _ c.cut.result (c.loop-e.invariant.4 q h)
+          (rw c.place.ensures.0) (rw (c.cut.ensures, c.get-got.ensures.0, p)),
+    )
+
+pub returns : goal.returns
+returns c =
+    let e : c.loop-e.e ≡ c.args.row.n = omega arith in
+    let k = straight-known _ _ _ _ _ _ c.requires.r_len.2 c.straight-whole.ensures in
+    let g = straight-read c.args.first _ _ _ _ _ _ c.requires.held.short k c.args.row.file c.args.narrow c.args.mem.now c.args.r.now _
+    (rw c.word_at-w.ensures at c.copy.ensures) in
+    rw (← c.a_0-from.ensures, ← e) record { became = c.loop-e.invariant.4 c.args.r.now g; beyond = c.loop-e.invariant.3 }

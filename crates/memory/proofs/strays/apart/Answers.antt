@@ -1,0 +1,8 @@
+use Rattle.std.proofs.Common.{rules, le-ltb, lt-ltb}
+use Rattle.memory.proofs.strays.apart.Goals as goal
+
+pub returns-then-x-lt64 : goal.returns-then-x-lt64
+returns-then-x-lt64 c = rw (lt-ltb _ _ c.if-x-lt64.true)
+
+pub returns-else-x-lt64 : goal.returns-else-x-lt64
+returns-else-x-lt64 c = rw (le-ltb _ _ c.if-x-lt64.false) c.a_k.ensures

@@ -1,0 +1,6 @@
+use Rattle.std.proofs.Common.{rules}
+use Rattle.memory.proofs.strays.or_else.Goals as goal
+
+pub returns-in-First : goal.returns-in-First
+returns-in-First c =
+    rw c.in-First.is

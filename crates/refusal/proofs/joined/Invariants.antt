@@ -1,0 +1,13 @@
+use Prim.Native.Nat.{◌-◌, ◌≤◌}
+use mathlib.Core.Path.{◌≡◌, refl}
+use lib.ListN.{length, drop}
+use Rattle.refusal.specs.Joined.{joined}
+use Rattle.refusal.proofs.Laws.{joins-on, joins-all}
+use borrow.Author.Rules.{rules}
+use Rattle.refusal.proofs.joined.Given as goal
+
+abbrev pub invariant-loop-e : goal.invariant-loop-e
+invariant-loop-e l = (l.e ≤ length l.numbers) × (joined l.all (drop l.e l.numbers) ≡ joined 0 l.numbers)
+
+abbrev pub decreases-loop-e : goal.decreases-loop-e
+decreases-loop-e l = length l.numbers - l.e

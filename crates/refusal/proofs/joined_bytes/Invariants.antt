@@ -1,0 +1,13 @@
+use Prim.Native.Nat.{◌-◌, ◌≤◌}
+use mathlib.Core.Path.{◌≡◌, refl}
+use lib.ListN.{length, drop}
+use Rattle.refusal.specs.Joined.{joined}
+use Rattle.refusal.proofs.Laws.{joins-on, joins-all}
+use borrow.Author.Rules.{rules}
+use Rattle.refusal.proofs.joined_bytes.Given as goal
+
+abbrev pub invariant-loop-e : goal.invariant-loop-e
+invariant-loop-e l = (l.e ≤ length l.bytes) × (joined l.all (drop l.e l.bytes) ≡ joined 0 l.bytes)
+
+abbrev pub decreases-loop-e : goal.decreases-loop-e
+decreases-loop-e l = length l.bytes - l.e

@@ -1,0 +1,12 @@
+use Rattle.machine.specs.Act.{or_s, act}
+use Rattle.machine.specs.Codes.{code_of}
+use Rattle.access.proofs.Leaf.{puts}
+use borrow.Author.Rules.{rules}
+use Rattle.scalar.proofs.logic.or.Goals as goal
+
+pub returns : goal.returns
+unfolding code_of act
+returns c =
+    λ p mem. puts or_s _ _ _ _ mem p _ c.put_s.ensures
+    (rw c.requires.1)
+    (rw (c.s_j.ensures, c.s_k.ensures))

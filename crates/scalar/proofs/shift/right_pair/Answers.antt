@@ -1,0 +1,17 @@
+use Rattle.machine.specs.Act.{right_pair_s, act}
+use Rattle.machine.specs.Codes.{code_of}
+use Rattle.access.proofs.Leaf.{puts}
+use borrow.Author.Rules.{rules}
+use Rattle.scalar.proofs.shift.right_pair.Goals as goal
+
+pub returns : goal.returns
+unfolding code_of act
+returns c =
+    λ p mem. puts right_pair_s _ _ _ _ mem p _ c.put_s.ensures
+    (rw c.requires.1)
+    (rw (
+      c.right_pair-y.ensures,
+      c.s_j.ensures,
+      c.s_i.ensures,
+      c.a_k.ensures,
+    ))

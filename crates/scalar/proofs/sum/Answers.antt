@@ -1,0 +1,16 @@
+use Rattle.machine.specs.Act.{sum_s, act}
+use Rattle.machine.specs.Codes.{code_of}
+use Rattle.access.proofs.Leaf.{puts}
+use borrow.Author.Rules.{rules}
+use Rattle.scalar.proofs.sum.Goals as goal
+
+pub returns : goal.returns
+unfolding code_of act
+returns c =
+    λ p mem. puts sum_s _ _ _ _ mem p _ c.put_s.ensures
+    (rw c.requires.1)
+    (rw (
+      c.sum.ensures,
+      c.s_j.ensures,
+      c.s_k.ensures,
+    ))

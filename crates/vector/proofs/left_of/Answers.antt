@@ -1,0 +1,5 @@
+use borrow.Author.Rules.{rules}
+use Rattle.vector.proofs.left_of.Goals as goal
+
+pub returns-else-scalar : goal.returns-else-scalar
+returns-else-scalar c = rw c.if-scalar.false

@@ -1,0 +1,22 @@
+use Prim.Native.Nat.{◌+◌, ◌-◌, ◌≤◌}
+use mathlib.Core.Path.{◌∙◌, refl}
+use native.Mathlib.Omega.{arith}
+use lib.ListN.{length-set}
+use borrow.Author.Tests.{eq-eqb, ne_eqb}
+use Rattle.machine.specs.Word.{shift_left_pair}
+use Rattle.machine.specs.Parcel.{j_of, k_of}
+use Rattle.machine.specs.State.{ak}
+use Rattle.machine.specs.Act.{left_pair_v, after, act}
+use Rattle.machine.specs.Codes.{code_of}
+use Rattle.machine.specs.Layout.{registers_of}
+use Rattle.access.proofs.Leaf.{puts}
+use Rattle.vector.proofs.Loops.{vj, Doing, begins, reads, goes, ends}
+use borrow.Author.Rules.{rules}
+use Rattle.vector.proofs.left_pairs.Given as goal
+
+abbrev pub invariant-loop-e : goal.invariant-loop-e
+invariant-loop-e l =
+    Doing l.x (registers_of l.initial.r).vl (λ q. shift_left_pair (vj l.initial.r l.x q) (after (registers_of l.initial.r).vl (vj l.initial.r l.x) q) (ak (registers_of l.initial.r) (k_of l.x))) l.initial.r l.r l.e × (l.e ≤ l.last)
+
+abbrev pub decreases-loop-e : goal.decreases-loop-e
+decreases-loop-e l = l.last - l.e

@@ -1,0 +1,21 @@
+use Prim.Native.Nat.{◌+◌, ◌-◌}
+use native.Mathlib.Omega.{arith}
+use Rattle.machine.specs.Parcel.{j_of, k_of}
+use Rattle.machine.specs.State.{ak}
+use Rattle.machine.specs.Layout.{registers_of}
+use Rattle.vector.specs.Element.{one_of}
+use Rattle.vector.proofs.Loops.{vj, Doing, begins, reads, goes, ends}
+use Rattle.vector.proofs.Arms.{of-vj}
+use borrow.Author.Rules.{rules}
+use Rattle.vector.proofs.one_vector.Goals as goal
+
+pub loop-e-init : goal.loop-e-init
+loop-e-init c = begins _ _ _ _ (search rules)
+
+pub loop-e-preserved : goal.loop-e-preserved
+loop-e-preserved c =
+    goes c.loop-e.invariant _ _ (omega arith) (cc (reads c.loop-e.invariant (j_of c.args.x) c.loop-e.e (c.v_j-from.result + c.loop-e.e) (omega arith)))
+
+pub returns : goal.returns
+returns c =
+    of-vj _ _ _ c.args.op c.requires.one_code (ends c.loop-e.invariant (omega arith))

@@ -1,0 +1,21 @@
+use Prim.Native.Nat.{◌+◌, ◌-◌}
+use mathlib.Core.Path.{◌≡◌, refl}
+use native.Mathlib.Omega.{arith}
+use native.Mathlib.Numerals.{add-one}
+use Rattle.machine.specs.Word.{shift_right_pair}
+use Rattle.machine.specs.Parcel.{j_of, k_of}
+use Rattle.machine.specs.State.{ak}
+use Rattle.machine.specs.Act.{right_pair_v, before, act}
+use Rattle.machine.specs.Codes.{code_of}
+use Rattle.machine.specs.Layout.{registers_of}
+use Rattle.access.proofs.Leaf.{puts}
+use Rattle.vector.proofs.Loops.{vj, Doing, begins, reads, goes, ends}
+use borrow.Author.Rules.{rules}
+use Rattle.vector.proofs.right_pairs.Given as goal
+
+abbrev pub invariant-loop-e : goal.invariant-loop-e
+invariant-loop-e l =
+    Doing l.x l.n (λ q. shift_right_pair (before (vj l.initial.r l.x) q) (vj l.initial.r l.x q) (ak (registers_of l.initial.r) (k_of l.x))) l.initial.r l.r l.e × (l.high ≡ before (vj l.initial.r l.x) l.e)
+
+abbrev pub decreases-loop-e : goal.decreases-loop-e
+decreases-loop-e l = l.n - l.e
