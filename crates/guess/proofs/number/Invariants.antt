@@ -1,0 +1,17 @@
+use mathlib.Core.Path.{◌≡◌, refl, ◌∙◌}
+use mathlib.Core.Logic.{⊎_elim}
+use Prim.Native.Nat.{◌-◌, ◌^◌, ◌≤◌, ◌<◌}
+use native.Mathlib.Omega.{arith}
+use lib.ListN.{drop}
+use borrow.Author.Tests.{leb-true, leb-false}
+use Rattle.spelling.specs.Candidate.{bytes_of, number_from, number_at}
+use Rattle.guess.proofs.Laws.{octal, below-octal, above-octal, number_more, number-stops, number-full}
+use borrow.Author.Rules.{rules}
+use Rattle.guess.proofs.number.Given as goal
+
+abbrev pub invariant-loop-p : goal.invariant-loop-p
+invariant-loop-p l =
+    (l.p ≤ 16) × (l.value < 2 ^ 32) × (number_at (bytes_of (drop l.at l.text)) l.start ≡ number_from (16 - l.p) (bytes_of (drop l.at l.text)) l.p l.value)
+
+abbrev pub decreases-loop-p : goal.decreases-loop-p
+decreases-loop-p l = 16 - l.p

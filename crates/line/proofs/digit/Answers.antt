@@ -1,0 +1,6 @@
+use Rattle.line.proofs.Octal.{octal-glyph}
+use borrow.Author.Rules.{rules}
+use Rattle.line.proofs.digit.Goals as goal
+
+pub returns : goal.returns
+returns c = octal-glyph c.args.n

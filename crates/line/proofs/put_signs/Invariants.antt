@@ -1,0 +1,12 @@
+use mathlib.Core.Path.{refl}
+use Prim.Native.Nat.{◌-◌}
+use native.Mathlib.Omega.{arith}
+use lib.ListN.{length-set}
+use Rattle.line.proofs.Written.{ends-inside, Going, going, operand-next, room_next, newline-next, sign-next}
+use Rattle.line.proofs.put_signs.Given as goal
+
+abbrev pub invariant-loop-at : goal.invariant-loop-at
+invariant-loop-at l = Going l.initial.line l.at l.forms l.from l.line l.to l.p
+
+abbrev pub decreases-loop-at : goal.decreases-loop-at
+decreases-loop-at l = 1284 - l.p
