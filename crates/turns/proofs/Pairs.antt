@@ -167,7 +167,7 @@ begins schedule from pair mem f g within whole least s =
 -- the next byte names the one whose step is next: it passed to it, or it was the same byte before
 module _ (schedule : List ℕ) (from : ℕ) (pair₀ mem₀ pair mem : List ℕ) (f g : Reach) (a : Next) (n : ℕ)
     (h : Along schedule from pair₀ mem₀ pair mem f g a n) (pair' : List ℕ) (b : Next) where
-  abbrev Named : Type 0
+  abbrev pub Named : Type 0
   Named = Along schedule from pair₀ mem₀ pair' mem f g b n × (b.at ≡ side_of (get_or schedule n 0))
 
   pub passed : (l : List ℕ) (to : Next) → Passes a to f g pair l → (to.at ≡ side_of (get_or schedule n 0)) × (to.byte ≡ get_or schedule n 0) → length l ≡ 1344

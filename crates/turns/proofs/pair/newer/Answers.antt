@@ -1,0 +1,12 @@
+use mathlib.Core.Path.{refl}
+use borrow.Author.Tests.{ne_eqb}
+use borrow.Author.Rules.{rules}
+use Rattle.turns.proofs.pair.newer.Goals as goal
+
+pub returns-then-at-eq0 : goal.returns-then-at-eq0
+returns-then-at-eq0 c =
+    rw (c.if-at-eq0.true, c.or_else.ensures) (refl, refl)
+
+pub returns : goal.returns
+returns c =
+    rw (ne_eqb _ _ c.if-at-eq0.false, c.or_else-2.ensures) (refl, refl)

@@ -1,0 +1,18 @@
+use mathlib.Core.Path.{refl}
+use Rattle.turns.proofs.Pairs.{second-side, passes-first, passes-second}
+use borrow.Author.Rules.{rules}
+use Rattle.turns.proofs.pair.pass.Goals as goal
+
+pub returns-then-byte-eq0 : goal.returns-then-byte-eq0
+returns-then-byte-eq0 c =
+    record {
+        at_value = (rw c.if-byte-eq0.true, refl);
+        passes = passes-first _ _ _ _ _ c.requires.1 (search rules) c.keep_p.ensures.pair_after c.keep_p.ensures.pair_unchanged _;
+    }
+
+pub returns : goal.returns
+returns c =
+    record {
+        at_value = (second-side _ c.if-byte-eq0.false, refl);
+        passes = passes-second _ _ _ _ _ c.requires.1 (search rules) c.keep_p.ensures.pair_after c.keep_p.ensures.pair_unchanged _;
+    }

@@ -1,0 +1,15 @@
+use Rattle.turns.proofs.Lent.{seen}
+use borrow.Author.Rules.{rules}
+use Rattle.turns.proofs.pair.reach_at.Goals as goal
+
+pub reach-requires : goal.reach-requires
+reach-requires c =
+    record {
+        r_len = rw seen c.requires.fitting.long;
+        r_bound = rw seen (c.requires.fitting.frame.iba, c.requires.fitting.frame.ila, c.requires.fitting.frame.dba, c.requires.fitting.frame.dla);
+        mem_len_bound = c.requires.fitting.most;
+    }
+
+pub returns : goal.returns
+returns c =
+    record { long = c.requires.fitting.long; reaches = rw seen at c.reach.ensures; frame = c.requires.fitting.frame; control = c.requires.fitting.control; processor = c.requires.fitting.processor }

@@ -1,0 +1,14 @@
+use Prim.Native.Nat.{◌-◌}
+use mathlib.Core.Path.{refl, sym, ◌∙◌}
+use mathlib.Core.Logic.{inl, inr, ⊎_elim}
+use native.Mathlib.Omega.{arith}
+use lib.ListN.{length}
+use Rattle.turns.proofs.Pairs.{Along, begins, passed, stayed, goes_on_lem, ends, spent}
+use borrow.Author.Rules.{rules}
+use Rattle.turns.proofs.pair.take.Given as goal
+
+abbrev pub invariant-loop-n : goal.invariant-loop-n
+invariant-loop-n l = Along l.schedule l.from l.initial.pair l.initial.mem l.pair l.mem l.first l.second l.next l.n
+
+abbrev pub decreases-loop-n : goal.decreases-loop-n
+decreases-loop-n l = length l.schedule - l.n

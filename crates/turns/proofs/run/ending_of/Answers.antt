@@ -1,0 +1,5 @@
+use borrow.Author.Rules.{rules}
+use Rattle.turns.proofs.run.ending_of.Goals as goal
+
+pub returns-in-Refused : goal.returns-in-Refused
+returns-in-Refused c = cc

@@ -1,0 +1,6 @@
+use Rattle.turns.proofs.Steps.{set_p}
+use borrow.Author.Rules.{rules}
+use Rattle.turns.proofs.set_p.Goals as goal
+
+pub returns : goal.returns
+returns c = set_p c.args.p _ c.requires
