@@ -49,9 +49,9 @@ pub struct Replied {
 
 // One step.
 pub fn step(r: &mut [u64; 672], mem: &mut [u64]) -> Replied
-    ensures mem_after { replied result.reply result.stray (state_of r.new) (sharing mem.new)
+    ensures call { replied result.reply result.stray (state_of r.new) (sharing mem.new)
         ≡ step_call (state_of r.old) (sharing mem.old) }
-    ensures stray_value { reply_numbers result.reply ++ stray_numbers result.stray
+    ensures numbers { reply_numbers result.reply ++ stray_numbers result.stray
         ≡ step_numbers (step_call (state_of r.old) (sharing mem.old)) }
 {
     let no = refusal::of_step(r, mem.len());
@@ -72,9 +72,9 @@ pub fn step(r: &mut [u64; 672], mem: &mut [u64]) -> Replied
 
 // Steps up to and including the first that exchanges or stops, at most `budget`.
 pub fn turn(r: &mut [u64; 672], mem: &mut [u64], budget: u64) -> Turned
-    ensures mem_after { turned result.last result.stray result.steps (state_of r.new) (sharing mem.new)
+    ensures call { turned result.last result.stray result.steps (state_of r.new) (sharing mem.new)
         ≡ turn_call (state_of r.old) (sharing mem.old) budget }
-    ensures stray_value { last_numbers result.last ++ stray_numbers result.stray
+    ensures numbers { last_numbers result.last ++ stray_numbers result.stray
         ≡ turn_numbers (turn_call (state_of r.old) (sharing mem.old) budget) }
 {
     let no = refusal::of_run(r, mem.len(), budget);
@@ -90,9 +90,9 @@ pub fn turn(r: &mut [u64; 672], mem: &mut [u64], budget: u64) -> Turned
 
 // At most `budget` steps, sooner where one stops.
 pub fn run(r: &mut [u64; 672], mem: &mut [u64], budget: u64) -> Ran
-    ensures mem_after { ended result.ending result.stray result.steps (state_of r.new) (sharing mem.new)
+    ensures call { ended result.ending result.stray result.steps (state_of r.new) (sharing mem.new)
         ≡ run_call (state_of r.old) (sharing mem.old) budget }
-    ensures stray_value { ending_numbers result.ending ++ stray_numbers result.stray
+    ensures numbers { ending_numbers result.ending ++ stray_numbers result.stray
         ≡ run_numbers (run_call (state_of r.old) (sharing mem.old) budget) }
 {
     let no = refusal::of_run(r, mem.len(), budget);
@@ -109,10 +109,10 @@ pub fn run(r: &mut [u64; 672], mem: &mut [u64], budget: u64) -> Ran
 // Two processors, one after the other in 1,344 words, over one memory: a step for each byte of a schedule of 0s and 1s, up to and
 // including the first that exchanges or stops.
 pub fn pair_run(pair: &mut [u64; 1344], mem: &mut [u64], schedule: &[u8]) -> Paired
-    ensures mem_after { pair_ended result.last result.steps (half_with (first_of pair.new) result.strays.first)
+    ensures call { pair_ended result.last result.steps (half_with (first_of pair.new) result.strays.first)
         (half_with (second_of pair.new) result.strays.second) (sharing mem.new)
         ≡ pair_call (first_of pair.old) (second_of pair.old) (sharing mem.old) schedule.now }
-    ensures second_value { last_numbers result.last ++ (stray_numbers result.strays.first ++ stray_numbers result.strays.second)
+    ensures numbers { last_numbers result.last ++ (stray_numbers result.strays.first ++ stray_numbers result.strays.second)
         ≡ pair_numbers (pair_call (first_of pair.old) (second_of pair.old) (sharing mem.old) schedule.now) }
 {
     let no = refusal::of_pair(pair, mem.len(), schedule);
