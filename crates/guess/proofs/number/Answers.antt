@@ -1,5 +1,4 @@
 use mathlib.Core.Path.{◌≡◌, refl, ◌∙◌}
-use mathlib.Core.Logic.{⊎_elim}
 use Prim.Native.Nat.{◌-◌, ◌^◌, ◌≤◌, ◌<◌}
 use native.Mathlib.Omega.{arith}
 use lib.ListN.{drop}
@@ -8,6 +7,7 @@ use Rattle.spelling.specs.Candidate.{bytes_of, number_from, number_at}
 use Rattle.guess.proofs.Laws.{octal, below-octal, above-octal, number_more, number-stops, number-full}
 use borrow.Author.Rules.{rules}
 use Rattle.guess.proofs.number.Goals as goal
+use Rattle.guess.proofs.number.Goals.{then-b-lt48-via-then-b-lt48, then-b-lt48-via-else-b-lt48+then-b-ge56}
 
 pub loop-p-init : goal.loop-p-init
 unfolding number_at
@@ -32,7 +32,10 @@ returns-after-loop-p c =
 
 pub returns-then-b-lt48 : goal.returns-then-b-lt48
 returns-then-b-lt48 c =
-    let other = ⊎_elim (λ w. below-octal _ w.taken) (λ w. above-octal _ (leb-true 56 c.byte-b.result w.1.taken)) c.then-b-lt48.branch in
+    let other = elim c.then-b-lt48.branch [
+        then-b-lt48-via-then-b-lt48 w ↦ below-octal _ w.if-b-lt48.true
+      | then-b-lt48-via-else-b-lt48+then-b-ge56 w ↦ above-octal _ (leb-true 56 c.byte-b.result w.if-b-ge56.true-raw)
+      ] in
     let all = c.loop-p.invariant.2 ∙ number-stops _ _ _ c.loop-p-test.true (rw (← c.byte-b.ensures) other) in
     record {
         value_value = (rw all, c.loop-p.invariant.1);
