@@ -1,5 +1,7 @@
+use mathlib.Core.Path.{◌≡◌}
+use mathlib.Core.Bool.{false}
 use borrow.Author.Tests.{ltb-true, ltb-false}
-use Rattle.spelling.specs.Candidate.{row_seen}
+use Rattle.spelling.specs.Candidate.{is_octal, row_seen}
 use Rattle.guess.proofs.Laws.{octal, below-octal, above-octal}
 use borrow.Author.Rules.{rules}
 use Rattle.guess.proofs.row_seen.Goals as goal
@@ -14,8 +16,8 @@ returns-then-b-lt56 c =
 pub returns : goal.returns
 unfolding row_seen
 returns c =
-    let other = elim c.else-b-ge48.branch [
-        else-b-ge48-via-then-b-ge48+else-b-lt56 w ↦ above-octal _ (ltb-false c.byte-b.result 56 w.if-b-lt56.false-raw)
+    let other : is_octal c.byte-b.result ≡ false = elim c.else-b-ge48.branch [
+      | else-b-ge48-via-then-b-ge48+else-b-lt56 w ↦ above-octal _ (ltb-false c.byte-b.result 56 w.if-b-lt56.false-raw)
       | else-b-ge48-via-else-b-ge48 w ↦ below-octal _ w.if-b-ge48.false
-      ] in
+    ] in
     (rw (← c.byte-b.ensures, other) c.line_sign.ensures.0, c.line_sign.ensures.1)
