@@ -41,18 +41,17 @@ returns-in-45 c = (rw c.in-45.is, omega arith)
 
 pub returns-in_default : goal.returns-in_default
 unfolding code_row
-returns-in_default c =
-    (
-      rw (
-        ne_eqb _ _ c.in_default.in_default-own.rest.0.0.0.0.0.0.0.0.1,
-        ne_eqb _ _ c.in_default.in_default-own.rest.0.0.0.0.0.0.0.1,
-        ne_eqb _ _ c.in_default.in_default-own.rest.0.0.0.0.0.0.1,
-        ne_eqb _ _ c.in_default.in_default-own.rest.0.0.0.0.0.1,
-        ne_eqb _ _ c.in_default.in_default-own.rest.0.0.0.0.1,
-        ne_eqb _ _ c.in_default.in_default-own.rest.0.0.0.1,
-        ne_eqb _ _ c.in_default.in_default-own.rest.0.0.1,
-        ne_eqb _ _ c.in_default.in_default-own.rest.0.1,
-        ne_eqb _ _ c.in_default.in_default-own.rest.1,
-      ),
-      omega arith,
-    )
+returns-in_default c = (
+  rw (
+    ne_eqb _ _ c.in_default.in_default-own.rest.0.0.0.0.0.0.0.0.1,
+    ne_eqb _ _ c.in_default.in_default-own.rest.0.0.0.0.0.0.0.1,
+    ne_eqb _ _ c.in_default.in_default-own.rest.0.0.0.0.0.0.1,
+    ne_eqb _ _ c.in_default.in_default-own.rest.0.0.0.0.0.1,
+    ne_eqb _ _ c.in_default.in_default-own.rest.0.0.0.0.1,
+    ne_eqb _ _ c.in_default.in_default-own.rest.0.0.0.1,
+    ne_eqb _ _ c.in_default.in_default-own.rest.0.0.1,
+    ne_eqb _ _ c.in_default.in_default-own.rest.0.1,
+    ne_eqb _ _ c.in_default.in_default-own.rest.1,
+  ),
+  omega arith,
+)

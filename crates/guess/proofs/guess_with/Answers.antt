@@ -100,20 +100,19 @@ number-requires c =
     (c.requires.0, omega (arith, place-small c.requires.1 c.requires.2 4 (omega arith)))
 
 pub with_number-requires : goal.with_number-requires
-with_number-requires c =
-    (
-      c.requires.0,
-      omega (
-        arith,
-        base-small c.requires.1 c.requires.2,
-        c.digit-h.ensures.1,
-        c.digit-i.ensures.1,
-        c.digit-j.ensures.1,
-        c.digit-k.ensures.1,
-      ),
-      c.number.ensures.value_value.1,
-      c.number.ensures.end_value.1,
-    )
+with_number-requires c = (
+  c.requires.0,
+  omega (
+    arith,
+    base-small c.requires.1 c.requires.2,
+    c.digit-h.ensures.1,
+    c.digit-i.ensures.1,
+    c.digit-j.ensures.1,
+    c.digit-k.ensures.1,
+  ),
+  c.number.ensures.value_value.1,
+  c.number.ensures.end_value.1,
+)
 
 pub returns : goal.returns
 unfolding guess_with

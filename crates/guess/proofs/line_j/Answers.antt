@@ -14,28 +14,26 @@ returns-in-83 c = (rw (← c.byte.ensures, c.in-83.is) c.jump-in-83.ensures.0, c
 
 pub returns-then-byte-eq66 : goal.returns-then-byte-eq66
 unfolding told
-returns-then-byte-eq66 c =
-    (
-      rw (
-        ← c.byte.ensures,
-        ne_eqb _ _ c.in_default.in_default-own.rest.0.1,
-        ne_eqb _ _ c.in_default.in_default-own.rest.1,
-        ← c.byte-in_default.ensures,
-        c.if-byte-eq66.true,
-      ),
-      omega arith,
-    )
+returns-then-byte-eq66 c = (
+  rw (
+    ← c.byte.ensures,
+    ne_eqb _ _ c.in_default.in_default-own.rest.0.1,
+    ne_eqb _ _ c.in_default.in_default-own.rest.1,
+    ← c.byte-in_default.ensures,
+    c.if-byte-eq66.true,
+  ),
+  omega arith,
+)
 
 pub returns-else-byte-eq66 : goal.returns-else-byte-eq66
 unfolding told
-returns-else-byte-eq66 c =
-    (
-      rw (
-        ← c.byte.ensures,
-        ne_eqb _ _ c.in_default.in_default-own.rest.0.1,
-        ne_eqb _ _ c.in_default.in_default-own.rest.1,
-        ← c.byte-in_default.ensures,
-        ne_eqb _ _ c.if-byte-eq66.false,
-      ),
-      omega arith,
-    )
+returns-else-byte-eq66 c = (
+  rw (
+    ← c.byte.ensures,
+    ne_eqb _ _ c.in_default.in_default-own.rest.0.1,
+    ne_eqb _ _ c.in_default.in_default-own.rest.1,
+    ← c.byte-in_default.ensures,
+    ne_eqb _ _ c.if-byte-eq66.false,
+  ),
+  omega arith,
+)

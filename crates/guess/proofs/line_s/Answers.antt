@@ -54,18 +54,17 @@ returns-else-byte-eq38 c = (
 
 pub returns-in_default : goal.returns-in_default
 unfolding told
-returns-in_default c =
-    (
-      rw (
-        ← c.byte.ensures,
-        ne_eqb _ _ c.in_default.in_default-own.rest.0.0.0.0.0.0.0.1,
-        ne_eqb _ _ c.in_default.in_default-own.rest.0.0.0.0.0.0.1,
-        ne_eqb _ _ c.in_default.in_default-own.rest.0.0.0.0.0.1,
-        ne_eqb _ _ c.in_default.in_default-own.rest.0.0.0.0.1,
-        ne_eqb _ _ c.in_default.in_default-own.rest.0.0.0.1,
-        ne_eqb _ _ c.in_default.in_default-own.rest.0.0.1,
-        ne_eqb _ _ c.in_default.in_default-own.rest.0.1,
-        ne_eqb _ _ c.in_default.in_default-own.rest.1,
-      ),
-      omega arith,
-    )
+returns-in_default c = (
+  rw (
+    ← c.byte.ensures,
+    ne_eqb _ _ c.in_default.in_default-own.rest.0.0.0.0.0.0.0.1,
+    ne_eqb _ _ c.in_default.in_default-own.rest.0.0.0.0.0.0.1,
+    ne_eqb _ _ c.in_default.in_default-own.rest.0.0.0.0.0.1,
+    ne_eqb _ _ c.in_default.in_default-own.rest.0.0.0.0.1,
+    ne_eqb _ _ c.in_default.in_default-own.rest.0.0.0.1,
+    ne_eqb _ _ c.in_default.in_default-own.rest.0.0.1,
+    ne_eqb _ _ c.in_default.in_default-own.rest.0.1,
+    ne_eqb _ _ c.in_default.in_default-own.rest.1,
+  ),
+  omega arith,
+)

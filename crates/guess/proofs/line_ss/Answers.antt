@@ -46,16 +46,15 @@ returns-in-45 c = (rw (← c.byte.ensures, c.in-45.is), omega arith)
 
 pub returns-in_default : goal.returns-in_default
 unfolding told
-returns-in_default c =
-    (
-      rw (
-        ← c.byte.ensures,
-        ne_eqb _ _ c.in_default.in_default-own.rest.0.0.0.0.0.1,
-        ne_eqb _ _ c.in_default.in_default-own.rest.0.0.0.0.1,
-        ne_eqb _ _ c.in_default.in_default-own.rest.0.0.0.1,
-        ne_eqb _ _ c.in_default.in_default-own.rest.0.0.1,
-        ne_eqb _ _ c.in_default.in_default-own.rest.0.1,
-        ne_eqb _ _ c.in_default.in_default-own.rest.1,
-      ),
-      omega arith,
-    )
+returns-in_default c = (
+  rw (
+    ← c.byte.ensures,
+    ne_eqb _ _ c.in_default.in_default-own.rest.0.0.0.0.0.1,
+    ne_eqb _ _ c.in_default.in_default-own.rest.0.0.0.0.1,
+    ne_eqb _ _ c.in_default.in_default-own.rest.0.0.0.1,
+    ne_eqb _ _ c.in_default.in_default-own.rest.0.0.1,
+    ne_eqb _ _ c.in_default.in_default-own.rest.0.1,
+    ne_eqb _ _ c.in_default.in_default-own.rest.1,
+  ),
+  omega arith,
+)

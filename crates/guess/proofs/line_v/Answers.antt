@@ -14,12 +14,11 @@ returns-in-77 c = (rw (← c.byte.ensures, c.in-77.is) c.line_vm.ensures.0, c.li
 
 pub returns-in_default : goal.returns-in_default
 unfolding told
-returns-in_default c =
-    (
-      rw (
-        ← c.byte.ensures,
-        ne_eqb _ _ c.in_default.in_default-own.rest.0.1,
-        ne_eqb _ _ c.in_default.in_default-own.rest.1,
-      ) c.line_vi.ensures.0,
-      c.line_vi.ensures.1,
-    )
+returns-in_default c = (
+  rw (
+    ← c.byte.ensures,
+    ne_eqb _ _ c.in_default.in_default-own.rest.0.1,
+    ne_eqb _ _ c.in_default.in_default-own.rest.1,
+  ) c.line_vi.ensures.0,
+  c.line_vi.ensures.1,
+)

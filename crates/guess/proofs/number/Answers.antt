@@ -1,13 +1,14 @@
 use mathlib.Core.Path.{◌≡◌, refl, ◌∙◌}
-use mathlib.Core.Logic.{⊎_elim}
+use mathlib.Core.Bool.{false}
 use Prim.Native.Nat.{◌-◌, ◌^◌, ◌≤◌, ◌<◌}
 use native.Mathlib.Omega.{arith}
 use lib.ListN.{drop}
 use borrow.Author.Tests.{leb-true, leb-false}
-use Rattle.spelling.specs.Candidate.{bytes_of, number_from, number_at}
+use Rattle.spelling.specs.Candidate.{bytes_of, is_octal, number_from, number_at}
 use Rattle.guess.proofs.Laws.{octal, below-octal, above-octal, number_more, number-stops, number-full}
 use borrow.Author.Rules.{rules}
 use Rattle.guess.proofs.number.Goals as goal
+use Rattle.guess.proofs.number.Goals.{then-b-lt48-via-then-b-lt48, then-b-lt48-via-else-b-lt48+then-b-ge56}
 
 pub loop-p-init : goal.loop-p-init
 unfolding number_at
@@ -26,15 +27,18 @@ pub returns-after-loop-p : goal.returns-after-loop-p
 returns-after-loop-p c =
     let all = c.loop-p.invariant.2 ∙ number-full _ _ _ c.loop-p-test.false in
     record {
-        value_value = (rw all, c.loop-p.invariant.1);
-        end_value = (rw all, c.loop-p.invariant.0);
+      value_value = (rw all, c.loop-p.invariant.1);
+      end_value = (rw all, c.loop-p.invariant.0);
     }
 
 pub returns-then-b-lt48 : goal.returns-then-b-lt48
 returns-then-b-lt48 c =
-    let other = ⊎_elim (λ w. below-octal _ w.taken) (λ w. above-octal _ (leb-true 56 c.byte-b.result w.1.taken)) c.then-b-lt48.branch in
+    let other : is_octal c.byte-b.result ≡ false = elim c.then-b-lt48.branch [
+      | then-b-lt48-via-then-b-lt48 w ↦ below-octal _ w.if-b-lt48.true
+      | then-b-lt48-via-else-b-lt48+then-b-ge56 w ↦ above-octal _ (leb-true 56 c.byte-b.result w.if-b-ge56.true-raw)
+    ] in
     let all = c.loop-p.invariant.2 ∙ number-stops _ _ _ c.loop-p-test.true (rw (← c.byte-b.ensures) other) in
     record {
-        value_value = (rw all, c.loop-p.invariant.1);
-        end_value = (rw all, c.loop-p.invariant.0);
+      value_value = (rw all, c.loop-p.invariant.1);
+      end_value = (rw all, c.loop-p.invariant.0);
     }

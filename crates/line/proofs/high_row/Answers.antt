@@ -51,7 +51,7 @@ returns-in-127 c = rw c.in-127.is c.within-in-127.ensures
 
 pub returns-in_default : goal.returns-in_default
 returns-in_default c =
-    c.plain-Row.ensures
+    c.plain_row.ensures
     ∙ sym
     (row_plain c.args.c c.args.i c.args.j c.args.k c.requires.0
     c.in_default.in_default-own.rest.0.0.0.0.0.0.0.0.1 c.in_default.in_default-own.rest.0.0.0.0.0.0.0.1 c.in_default.in_default-own.rest.0.0.0.0.0.0.1 c.in_default.in_default-own.rest.0.0.0.0.0.1 c.in_default.in_default-own.rest.0.0.0.0.1

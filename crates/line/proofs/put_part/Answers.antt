@@ -17,6 +17,6 @@ put_signs-requires c =
 pub returns : goal.returns
 returns c =
     record {
-        wrote = then c.put_operand-end.ensures c.put_signs.ensures.wrote;
-        forms_value = c.put_signs.ensures.forms_value;
+      wrote = then c.put_operand-end.ensures c.put_signs.ensures.wrote;
+      forms_value = c.put_signs.ensures.forms_value;
     }
