@@ -274,7 +274,7 @@ pub fn set_element(r: &mut [u64], n: usize, e: usize, y: u64)
 
 // The control register at a place becomes y.
 pub fn set_control(r: &mut [u64], place: usize, y: u64)
-    requires r_len { length r.old ≡ 672 }
+    requires whole { length r.old ≡ 672 }
     requires control { Control place }
     ensures { Puts r.old r.new (to_control place y) }
 {
@@ -355,9 +355,9 @@ fn words_in(base: u64, limit: u64, length: u64) -> u64
 
 // What a processor reaches in a memory.
 pub fn reach(r: &[u64], mem: &[u64]) -> Reach
-    requires r_len { length r.now ≡ 672 }
-    requires r_bound { ((frame_of r.now).iba < 2 ^ 17) × ((frame_of r.now).ila < 2 ^ 17) × ((frame_of r.now).dba < 2 ^ 17) × ((frame_of r.now).dla < 2 ^ 17) }
-    requires mem_len_bound { length mem.now ≤ 2 ^ 22 }
+    requires whole { length r.now ≡ 672 }
+    requires bounds { ((frame_of r.now).iba < 2 ^ 17) × ((frame_of r.now).ila < 2 ^ 17) × ((frame_of r.now).dba < 2 ^ 17) × ((frame_of r.now).dla < 2 ^ 17) }
+    requires memory { length mem.now ≤ 2 ^ 22 }
     ensures { Reaches (frame_of r.now) result (length mem.now) }
 {
     let length = mem.len() as u64;
@@ -393,8 +393,8 @@ pub fn word_at(n: u64) -> WordAddr
 
 // Where a word of the data field lies in a memory of so many words, or why it lies outside.
 pub fn place_of(r: &[u64], words: u64, n: u64) -> Place
-    requires r_len { length r.now ≡ 672 }
-    requires r_bound { ((frame_of r.now).dba < 2 ^ 17) × ((frame_of r.now).dla < 2 ^ 17) }
+    requires whole { length r.now ≡ 672 }
+    requires bounds { ((frame_of r.now).dba < 2 ^ 17) × ((frame_of r.now).dla < 2 ^ 17) }
     ensures { result ≡ place_of (data_field (frame_of r.now)) words n }
 {
     let base = r[DBA] * 32;

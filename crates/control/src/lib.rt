@@ -46,7 +46,7 @@ pub fn normal_exit(x: u64) -> Work
 
 // The end of an instruction that sets the control register at a place.
 fn put_control(r: &mut [u64], place: usize, y: u64) -> Work
-    requires r_len { length r.old ≡ 672 }
+    requires whole { length r.old ≡ 672 }
     requires control { Control place }
     ensures { (result ≡ PastOne) × Puts r.old r.new (to_control place y) }
 {
@@ -149,7 +149,7 @@ fn to(x: u64, m: u64) -> Work
 
 // 006ijkm: to ijkm.
 pub fn jump(r: &[u64], mem: &[u64], f: Reach, p: ParcelAddr, x: u64) -> Work
-    requires r_len { (length r.now ≡ 672) × (x / 512 ≡ 0o006) }
+    requires whole { (length r.now ≡ 672) × (x / 512 ≡ 0o006) }
     requires reaches { Reaches (frame_of r.now) f (length mem.now) }
     ensures { Executes result r.now r.now mem.now mem.now p.0 x }
 {
@@ -164,7 +164,7 @@ pub fn jump(r: &[u64], mem: &[u64], f: Reach, p: ParcelAddr, x: u64) -> Work
 
 // 007ijkm: to ijkm, and B00 becomes the address past the instruction.
 pub fn return_jump(r: &mut [u64], mem: &[u64], f: Reach, p: ParcelAddr, x: u64) -> Work
-    requires r_len { (length r.old ≡ 672) × (x / 512 ≡ 0o007) }
+    requires whole { (length r.old ≡ 672) × (x / 512 ≡ 0o007) }
     requires reaches { Reaches (frame_of r.old) f (length mem.now) }
     ensures { Executes result r.old r.new mem.now mem.now p.0 x }
 {
@@ -211,7 +211,7 @@ fn holds(r: &[u64], test: Test) -> bool
 
 // 010 to 017: to ijkm where the test holds; with the high bit of i set, Ah becomes ijkm.
 pub fn branch(r: &mut [u64], mem: &[u64], f: Reach, p: ParcelAddr, x: u64, test: Test) -> Work
-    requires r_len { (length r.old ≡ 672) × (x / 512 ≡ test_code test) }
+    requires whole { (length r.old ≡ 672) × (x / 512 ≡ test_code test) }
     requires reaches { Reaches (frame_of r.old) f (length mem.now) }
     ensures { Executes result r.old r.new mem.now mem.now p.0 x }
 {

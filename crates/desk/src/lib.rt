@@ -203,7 +203,7 @@ fn put_data(out: &mut [u8], at: usize, x: u64) -> usize
 // The line of the first instruction of parcels, the first of which has an address.
 pub fn wide_line(parcels: &[u16], address: u64, out: &mut [u8]) -> Wide
     ensures wrote { Wrote out.old 0 (wide_line address parcels.now) out.new result.bytes × (result.bytes ≤ 41) }
-    ensures parcels_value { (result.parcels ≡ parcels_in parcels.now) × (result.parcels ≤ length parcels.now) ×
+    ensures taken { (result.parcels ≡ parcels_in parcels.now) × (result.parcels ≤ length parcels.now) ×
         (0 < length parcels.now → 0 < result.parcels) }
 {
     if parcels.len() < 1 {

@@ -183,7 +183,7 @@ fn moved(outside: bool, r: &mut [u64], x: u64) -> Work
 // 176i0k: Vi from memory.
 fn read_v(r: &mut [u64], mem: &[u64], f: Reach, x: u64) -> Work
     requires ready { Ready r.old f (length mem.now) }
-    requires x_value { x / 512 ≡ 0o176 }
+    requires coded { x / 512 ≡ 0o176 }
     ensures { (p : ℕ) → Executes result r.old r.new mem.now mem.now p x }
 {
     if access::j(x) != 0 {
@@ -195,7 +195,7 @@ fn read_v(r: &mut [u64], mem: &[u64], f: Reach, x: u64) -> Work
 // 1770jk: Vj to memory.
 fn store_v(r: &mut [u64], mem: &mut [u64], f: Reach, x: u64) -> Work
     requires ready { Ready r.old f (length mem.old) }
-    requires x_value { x / 512 ≡ 0o177 }
+    requires coded { x / 512 ≡ 0o177 }
     ensures { (p : ℕ) → Executes result r.old r.new mem.old mem.new p x }
 {
     if access::i(x) != 0 {

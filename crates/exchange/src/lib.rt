@@ -17,7 +17,7 @@ use machine::ParcelAddr;
 
 // The sixteen words that a processor is saved as.
 fn saved_words(r: &[u64], p: ParcelAddr, flags: u64) -> [u64; 16]
-    requires r_len { (length r.now ≡ 672) × (p.0 < 2 ^ 24) × (flags < 512) }
+    requires whole { (length r.now ≡ 672) × (p.0 < 2 ^ 24) × (flags < 512) }
     requires narrow { Narrow r.now }
     ensures { result ≡ package_of (frame_of r.now) (registers_of r.now) p.0 flags }
 {
@@ -115,7 +115,7 @@ pub fn load_package(r: &mut [u64], mem: &[u64], package: u64)
 
 // The exchange: the old XA chooses the package, which is loaded as it stood, and the old state is saved there, P being p.
 pub fn swap(r: &mut [u64], mem: &mut [u64], p: ParcelAddr, flags: u64)
-    requires r_len { (length r.old ≡ 672) × (4096 ≤ length mem.old) × (p.0 < 2 ^ 24) × (flags < 512) }
+    requires whole { (length r.old ≡ 672) × (4096 ≤ length mem.old) × (p.0 < 2 ^ 24) × (flags < 512) }
     requires frame_ok { FrameOk (frame_of r.old) × ControlOk (registers_of r.old) }
     ensures { (s : Stray) → out (Exchanged flags) s (state_of r.new) (sharing mem.new)
         ≡ exchange (frame_of r.old) (registers_of r.old) p.0 flags s (sharing mem.old) }

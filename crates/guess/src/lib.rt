@@ -375,8 +375,8 @@ fn line_sign(text: &[u8], at: usize) -> usize
 // Reads octal digits from a place on.
 fn number(text: &[u8], at: usize, start: usize) -> Numeral
     requires { (at + 32 ≤ length text.now) × (start ≤ 16) }
-    ensures value_value { (result.value ≡ (number_at (bytes_of (drop at text.now)) start).value) × (result.value < 2 ^ 32) }
-    ensures end_value { (result.end ≡ (number_at (bytes_of (drop at text.now)) start).end) × (result.end ≤ 16) }
+    ensures number { (result.value ≡ (number_at (bytes_of (drop at text.now)) start).value) × (result.value < 2 ^ 32) }
+    ensures after { (result.end ≡ (number_at (bytes_of (drop at text.now)) start).end) × (result.end ≤ 16) }
 {
     let mut value: u64 = 0;
     let mut p = start;

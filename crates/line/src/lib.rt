@@ -585,7 +585,7 @@ struct Cut {
 fn put_signs(line: &mut [u8], at: usize, forms: &[u8; 1284], from: usize) -> Cut
     requires { Ends (drop from forms.now) × (at + length (signs_of (drop from forms.now)) ≤ length line.old) × (length forms.now ≡ 1284) }
     ensures wrote { Wrote line.old at (signs_of (drop from forms.now)) line.new result.at }
-    ensures forms_value { drop result.from forms.now ≡ after_signs (drop from forms.now) }
+    ensures rest { drop result.from forms.now ≡ after_signs (drop from forms.now) }
 {
     let mut to = at;
     let mut p = from;
@@ -608,7 +608,7 @@ fn put_part(line: &mut [u8], forms: &[u8; 1284], cut: Cut, op: Operand) -> Cut
     requires { Ends (drop cut.from forms.now) × Small op ×
         (cut.at + length (operand_text op ++ signs_of (drop cut.from forms.now)) ≤ length line.old) × (length forms.now ≡ 1284) }
     ensures wrote { Wrote line.old cut.at (operand_text op ++ signs_of (drop cut.from forms.now)) line.new result.at }
-    ensures forms_value { drop result.from forms.now ≡ after_signs (drop cut.from forms.now) }
+    ensures rest { drop result.from forms.now ≡ after_signs (drop cut.from forms.now) }
 {
     let end = put_operand(line, cut.at, op);
     put_signs(line, end, forms, cut.from)

@@ -27,7 +27,7 @@ fn place(b: bool) -> usize
 
 // 034, 036: B or T registers from jk on, from memory.
 fn read_block(r: &mut [u64], mem: &[u64], first: usize, words: u64, x: u64, b: bool) -> bool
-    requires r_len { (length r.old ≡ 672) × (x / 512 ≡ pick b 0o034 0o036) }
+    requires whole { (length r.old ≡ 672) × (x / 512 ≡ pick b 0o034 0o036) }
     requires window { Window (frame_of r.old) first words (length mem.now) }
     ensures { Moved result r.old r.new mem.now mem.now x }
 {
@@ -42,7 +42,7 @@ fn read_block(r: &mut [u64], mem: &[u64], first: usize, words: u64, x: u64, b: b
 
 // 035, 037: the same to memory.
 fn store_block(r: &[u64], mem: &mut [u64], first: usize, words: u64, x: u64, b: bool) -> bool
-    requires r_len { (length r.now ≡ 672) × (x / 512 ≡ pick b 0o035 0o037) }
+    requires whole { (length r.now ≡ 672) × (x / 512 ≡ pick b 0o035 0o037) }
     requires window { Window (frame_of r.now) first words (length mem.old) }
     ensures { Moved result r.now r.now mem.old mem.new x }
 {
@@ -57,7 +57,7 @@ fn store_block(r: &[u64], mem: &mut [u64], first: usize, words: u64, x: u64, b: 
 
 // 034: B registers from memory.
 pub fn read_b(r: &mut [u64], mem: &[u64], first: usize, words: u64, x: u64) -> bool
-    requires r_len { (length r.old ≡ 672) × (x / 512 ≡ 0o034) }
+    requires whole { (length r.old ≡ 672) × (x / 512 ≡ 0o034) }
     requires window { Window (frame_of r.old) first words (length mem.now) }
     ensures { Moved result r.old r.new mem.now mem.now x }
 {
@@ -66,7 +66,7 @@ pub fn read_b(r: &mut [u64], mem: &[u64], first: usize, words: u64, x: u64) -> b
 
 // 035: B registers to memory.
 pub fn store_b(r: &[u64], mem: &mut [u64], first: usize, words: u64, x: u64) -> bool
-    requires r_len { (length r.now ≡ 672) × (x / 512 ≡ 0o035) }
+    requires whole { (length r.now ≡ 672) × (x / 512 ≡ 0o035) }
     requires window { Window (frame_of r.now) first words (length mem.old) }
     ensures { Moved result r.now r.now mem.old mem.new x }
 {
@@ -75,7 +75,7 @@ pub fn store_b(r: &[u64], mem: &mut [u64], first: usize, words: u64, x: u64) -> 
 
 // 036: T registers from memory.
 pub fn read_t(r: &mut [u64], mem: &[u64], first: usize, words: u64, x: u64) -> bool
-    requires r_len { (length r.old ≡ 672) × (x / 512 ≡ 0o036) }
+    requires whole { (length r.old ≡ 672) × (x / 512 ≡ 0o036) }
     requires window { Window (frame_of r.old) first words (length mem.now) }
     ensures { Moved result r.old r.new mem.now mem.now x }
 {
@@ -84,7 +84,7 @@ pub fn read_t(r: &mut [u64], mem: &[u64], first: usize, words: u64, x: u64) -> b
 
 // 037: T registers to memory.
 pub fn store_t(r: &[u64], mem: &mut [u64], first: usize, words: u64, x: u64) -> bool
-    requires r_len { (length r.now ≡ 672) × (x / 512 ≡ 0o037) }
+    requires whole { (length r.now ≡ 672) × (x / 512 ≡ 0o037) }
     requires window { Window (frame_of r.now) first words (length mem.old) }
     ensures { Moved result r.now r.now mem.old mem.new x }
 {
@@ -93,7 +93,7 @@ pub fn store_t(r: &[u64], mem: &mut [u64], first: usize, words: u64, x: u64) -> 
 
 // 176i0k: Vi from memory.
 pub fn read_v(r: &mut [u64], mem: &[u64], first: usize, words: u64, x: u64) -> bool
-    requires r_len { (length r.old ≡ 672) × (x / 512 ≡ 0o176) × (j_of x ≡ 0) × ((registers_of r.old).vl ≤ 64) }
+    requires whole { (length r.old ≡ 672) × (x / 512 ≡ 0o176) × (j_of x ≡ 0) × ((registers_of r.old).vl ≤ 64) }
     requires window { Window (frame_of r.old) first words (length mem.now) }
     ensures { Moved result r.old r.new mem.now mem.now x }
 {
@@ -110,7 +110,7 @@ pub fn read_v(r: &mut [u64], mem: &[u64], first: usize, words: u64, x: u64) -> b
 
 // 1770jk: Vj to memory.
 pub fn store_v(r: &[u64], mem: &mut [u64], first: usize, words: u64, x: u64) -> bool
-    requires r_len { (length r.now ≡ 672) × (x / 512 ≡ 0o177) × (i_of x ≡ 0) × ((registers_of r.now).vl ≤ 64) }
+    requires whole { (length r.now ≡ 672) × (x / 512 ≡ 0o177) × (i_of x ≡ 0) × ((registers_of r.now).vl ≤ 64) }
     requires window { Window (frame_of r.now) first words (length mem.old) }
     ensures { Moved result r.now r.now mem.old mem.new x }
 {

@@ -54,7 +54,7 @@ fn set(r: &mut [u64], x: u64, file: File, y: u64)
 
 // 10h, 12h: Ai or Si from memory.
 pub fn load(r: &mut [u64], mem: &[u64], f: Reach, p: ParcelAddr, x: u64, file: File) -> Work
-    requires r_len { (length r.old ≡ 672) × (x / 512 / 8 ≡ load_code file) }
+    requires whole { (length r.old ≡ 672) × (x / 512 / 8 ≡ load_code file) }
     requires reaches { Reaches (frame_of r.old) f (length mem.now) }
     ensures { Executes result r.old r.new mem.now mem.now p.0 x }
 {
@@ -69,7 +69,7 @@ pub fn load(r: &mut [u64], mem: &[u64], f: Reach, p: ParcelAddr, x: u64, file: F
 
 // 11h, 13h: Ai or Si to memory.
 pub fn store(r: &mut [u64], mem: &mut [u64], f: Reach, p: ParcelAddr, x: u64, file: File) -> Work
-    requires r_len { (length r.old ≡ 672) × (x / 512 / 8 ≡ store_code file) }
+    requires whole { (length r.old ≡ 672) × (x / 512 / 8 ≡ store_code file) }
     requires reaches { Reaches (frame_of r.old) f (length mem.old) }
     ensures { Executes result r.old r.new mem.old mem.new p.0 x }
 {

@@ -39,7 +39,7 @@ pub fn put(mem: &mut [u64], first: usize, words: u64, n: u64, x: u64) -> bool
 
 // n words of one list, from `at` on, to another, from `first` on.
 fn copy(to: &mut [u64], first: usize, from: &[u64], at: usize, n: usize, narrow: bool)
-    requires n_value { n % 16 ≡ 0 }
+    requires sixteens { n % 16 ≡ 0 }
     requires by_index { (e : ℕ) → e < n → (first + e < length to.old) × (at + e < length from.now) }
     ensures { to.new ≡ fill first (λ e. cut_to narrow (slice_index from.now (at + e))) n to.old }
 {
@@ -82,7 +82,7 @@ fn straight(words: u64, row: Row, from: u64) -> usize
 
 // A row of registers from the words at A0, A0 + by, ..; whether one lies outside.
 pub fn read(r: &mut [u64], mem: &[u64], first: usize, words: u64, row: Row, narrow: bool) -> bool
-    requires r_len { (length r.old ≡ 672) × (row.file + 64 ≤ 672) × (row.reg < 64) × (row.n < 128) }
+    requires whole { (length r.old ≡ 672) × (row.file + 64 ≤ 672) × (row.reg < 64) × (row.n < 128) }
     requires held { Held first words (length mem.now) }
     ensures { ReadRow r.old r.new mem.now first words (ai (registers_of r.old) 0)
         row.by row.file row.reg row.n narrow result }
@@ -113,7 +113,7 @@ pub fn read(r: &mut [u64], mem: &[u64], first: usize, words: u64, row: Row, narr
 
 // The same to memory.
 pub fn store(r: &[u64], mem: &mut [u64], first: usize, words: u64, row: Row) -> bool
-    requires r_len { (length r.now ≡ 672) × (row.file + 64 ≤ 672) × (row.reg < 64) × (row.n < 128) }
+    requires whole { (length r.now ≡ 672) × (row.file + 64 ≤ 672) × (row.reg < 64) × (row.n < 128) }
     requires held { Held first words (length mem.old) }
     ensures { StoredRow r.now mem.old mem.new first words (ai (registers_of r.now) 0)
         row.by row.file row.reg row.n result }

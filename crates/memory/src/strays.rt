@@ -28,8 +28,8 @@ fn stray_at(place: Place, element: u64) -> Stray
 
 // The first of n words at from, from + by, .. that lies outside.
 fn first_outside(r: &[u64], words: u64, from: u64, by: u64, n: u64) -> Stray
-    requires r_len { length r.now ≡ 672 }
-    requires r_bound { ((frame_of r.now).dba < 2 ^ 17) × ((frame_of r.now).dla < 2 ^ 17) }
+    requires whole { length r.now ≡ 672 }
+    requires bounds { ((frame_of r.now).dba < 2 ^ 17) × ((frame_of r.now).dla < 2 ^ 17) }
     ensures { result ≡ first_outside (data_field (frame_of r.now)) (λ e. from + e * by) words n }
 {
     let mut stray = Stray::Clean;
@@ -65,8 +65,8 @@ fn apart(r: &[u64], x: u64) -> u64
 
 // The stray of a step whose work ended so.
 pub fn of(r: &[u64], words: u64, w: Work) -> Stray
-    requires r_len { length r.now ≡ 672 }
-    requires r_bound { ((frame_of r.now).dba < 2 ^ 17) × ((frame_of r.now).dla < 2 ^ 17) }
+    requires whole { length r.now ≡ 672 }
+    requires bounds { ((frame_of r.now).dba < 2 ^ 17) × ((frame_of r.now).dla < 2 ^ 17) }
     ensures { result ≡ told w r.now words }
 {
     let n = r[access::P];

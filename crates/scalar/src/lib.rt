@@ -15,7 +15,7 @@ use machine::{Fetched, ParcelAddr, Reach, Work};
 
 // 040ijkm: Si becomes jkm. 041ijkm: its complement in 64 bits.
 pub fn enter(r: &mut [u64], mem: &[u64], f: Reach, p: ParcelAddr, x: u64, complement: bool) -> Work
-    requires r_len { (length r.old ≡ 672) × (x / 512 ≡ pick complement 0o041 0o040) }
+    requires whole { (length r.old ≡ 672) × (x / 512 ≡ pick complement 0o041 0o040) }
     requires reaches { Reaches (frame_of r.old) f (length mem.now) }
     ensures { Executes result r.old r.new mem.now mem.now p.0 x }
 {

@@ -46,7 +46,7 @@ fn status_of(ps: u64, fps: u64, ifp: u64, ior: u64, bdm: u64, cln: u64, own: u64
 
 // The status word of a processor.
 fn status(r: &[u64]) -> u64
-    requires r_len { length r.now ≡ 672 }
+    requires whole { length r.now ≡ 672 }
     requires frame_ok { FrameOk (frame_of r.now) × ControlOk (registers_of r.now) × ((frame_of r.now).processor < 2) }
     ensures { result ≡ status_of (frame_of r.now) (registers_of r.now) }
 {
@@ -65,7 +65,7 @@ fn status(r: &[u64]) -> u64
 
 // 073i00, 073i01: Si becomes VM, or the status word.
 pub fn read_control(r: &mut [u64], x: u64) -> Work
-    requires r_len { (length r.old ≡ 672) × (x / 512 ≡ 0o073) }
+    requires whole { (length r.old ≡ 672) × (x / 512 ≡ 0o073) }
     requires frame_ok { FrameOk (frame_of r.old) × ControlOk (registers_of r.old) × ((frame_of r.old).processor < 2) }
     ensures { Alone result r.old r.new x }
 {

@@ -295,7 +295,7 @@ fn store_words(text: &[u8], start: usize, count: usize, mem: &mut [u64])
 pub fn read(text: &[u8], mem: &mut [u64; 4096]) -> Sheet
     ensures value { result ≡ sheet_of text.now }
     ensures mem_after { mem.new ≡ memory_of text.now mem.old }
-    ensures result_value { sheet_numbers result ≡ sheet_numbers (sheet_of text.now) }
+    ensures numbers { sheet_numbers result ≡ sheet_numbers (sheet_of text.now) }
     ensures sheet_fits { SheetFits result × (length mem.new ≡ length mem.old) }
 {
     match check(text) {

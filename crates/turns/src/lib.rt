@@ -226,7 +226,7 @@ pub enum Came {
 // A burst from P on, and the end of the step after it unless that strayed.
 fn stretch(r: &mut [u64], mem: &mut [u64], budget: u64) -> Came
     requires fitting { Fitting r.old (length mem.old) }
-    requires r_bound { (get_or r.old 0 0 < 2 ^ 24) × (budget ≤ 1000000) }
+    requires bounds { (get_or r.old 0 0 < 2 ^ 24) × (budget ≤ 1000000) }
     ensures { Comes result budget r.old r.new mem.old mem.new }
 {
     let f = access::reach(r, mem);
@@ -321,7 +321,7 @@ fn last_goes(last: Last, through: bool) -> bool
 // its own, whatever the program.
 fn take(r: &mut [u64], mem: &mut [u64], budget: u64, through: bool) -> Turned
     requires fitting { Fitting r.old (length mem.old) }
-    requires r_bound { (get_or r.old 0 0 < 2 ^ 24) × (budget ≤ 1000000) }
+    requires bounds { (get_or r.old 0 0 < 2 ^ 24) × (budget ≤ 1000000) }
     ensures { turned result.last result.stray result.steps (state_of r.new) (sharing mem.new)
         ≡ steps_of through budget Nothing Clean 0 (state_of r.old) (sharing mem.old) }
 {
@@ -345,7 +345,7 @@ fn take(r: &mut [u64], mem: &mut [u64], budget: u64, through: bool) -> Turned
 // Steps up to and including the first that exchanges or stops, at most so many.
 pub fn turn(r: &mut [u64], mem: &mut [u64], budget: u64) -> Turned
     requires fitting { Fitting r.old (length mem.old) }
-    requires r_bound { (get_or r.old 0 0 < 2 ^ 24) × (budget ≤ 1000000) }
+    requires bounds { (get_or r.old 0 0 < 2 ^ 24) × (budget ≤ 1000000) }
     ensures { turned result.last result.stray result.steps (state_of r.new) (sharing mem.new)
         ≡ turn_of budget Nothing Clean 0 (state_of r.old) (sharing mem.old) }
 {

@@ -19,7 +19,7 @@ use machine::{Answer, Last, ParcelAddr, Reach, Stray, Work};
 
 // What the processor whose words start at `at` reaches.
 fn reach_at(pair: &[u64], mem: &[u64], at: usize) -> Reach
-    requires pair_len { (length pair.now ≡ 1344) × Side at }
+    requires whole { (length pair.now ≡ 1344) × Side at }
     requires fitting { Fitting (part at 672 pair.now) (length mem.now) }
     ensures { Ready (part at 672 pair.now) result (length mem.now) }
 {
@@ -29,7 +29,7 @@ fn reach_at(pair: &[u64], mem: &[u64], at: usize) -> Reach
 
 // The work of its step; the other's words stay.
 fn step_at(pair: &mut [u64], mem: &mut [u64], at: usize, f: Reach, p: ParcelAddr) -> Work
-    requires pair_len { (length pair.old ≡ 1344) × Side at }
+    requires whole { (length pair.old ≡ 1344) × Side at }
     requires ready { Ready (part at 672 pair.old) f (length mem.old) }
     requires p_bound { p.0 < 2 ^ 24 }
     ensures works { Works result (part at 672 pair.old) (part at 672 pair.new) mem.old mem.new p.0 }
@@ -53,8 +53,8 @@ fn keep_p(pair: &mut [u64], at: usize, p: ParcelAddr)
 
 // The stray of its step.
 fn stray_at(pair: &[u64], words: u64, at: usize, w: Work) -> Stray
-    requires pair_len { (length pair.now ≡ 1344) × Side at }
-    requires pair_bound { ((frame_of (part at 672 pair.now)).dba < 2 ^ 17) × ((frame_of (part at 672 pair.now)).dla < 2 ^ 17) }
+    requires whole { (length pair.now ≡ 1344) × Side at }
+    requires bounds { ((frame_of (part at 672 pair.now)).dba < 2 ^ 17) × ((frame_of (part at 672 pair.now)).dla < 2 ^ 17) }
     ensures { result ≡ told w (part at 672 pair.now) words }
 {
     let end = at + access::WORDS;
@@ -63,10 +63,10 @@ fn stray_at(pair: &[u64], words: u64, at: usize, w: Work) -> Stray
 
 // The end of its step.
 fn finish_at(pair: &mut [u64], mem: &mut [u64], at: usize, p: ParcelAddr, w: Work) -> Answer
-    requires pair_len { (length pair.old ≡ 1344) × Side at }
+    requires whole { (length pair.old ≡ 1344) × Side at }
     requires fitting { Fitting (part at 672 pair.old) (length mem.old) }
     requires p_bound { (p.0 < 2 ^ 24) × Narrow w }
-    ensures mem_after { (s : Stray) → out result s (state_of (part at 672 pair.new)) (sharing mem.new)
+    ensures finished { (s : Stray) → out result s (state_of (part at 672 pair.new)) (sharing mem.new)
         ≡ finish (state_at p (part at 672 pair.old)) w s (registers_of (part at 672 pair.old)) (sharing mem.old) }
     ensures pair_unchanged { part (672 - at) 672 pair.new ≡ part (672 - at) 672 pair.old }
 {
@@ -118,7 +118,7 @@ pub struct PairBurst {
 
 // Steps from byte `from` of a schedule on, until it is spent or one does more than step. What both reach stays as it is all this time.
 fn take(pair: &mut [u64], mem: &mut [u64], schedule: &[u8], from: usize) -> PairBurst
-    requires pair_len { (length pair.old ≡ 1344) × (length schedule.now ≤ 65536) × (from ≤ length schedule.now) }
+    requires whole { (length pair.old ≡ 1344) × (length schedule.now ≤ 65536) × (from ≤ length schedule.now) }
     requires both { Both pair.old (length mem.old) }
     ensures { PairBursts result.at result.p result.steps result.work schedule.now from pair.old pair.new
         mem.old mem.new }
@@ -202,7 +202,7 @@ pub struct Paired {
 
 // A step for each byte of a schedule, 0 naming the first processor, up to and including the first that exchanges or stops.
 pub fn take_schedule(pair: &mut [u64], mem: &mut [u64], schedule: &[u8]) -> Paired
-    requires pair_len { (length pair.old ≡ 1344) × (length schedule.now ≤ 65536) }
+    requires whole { (length pair.old ≡ 1344) × (length schedule.now ≤ 65536) }
     requires both { Both pair.old (length mem.old) }
     ensures { pair_ended result.last result.steps (half_with (first_of pair.new) result.strays.first)
         (half_with (second_of pair.new) result.strays.second) (sharing mem.new)

@@ -42,7 +42,7 @@ fn ending_of(last: Last) -> Ending
 // Steps until the budget is spent or one stops.
 pub fn run(r: &mut [u64], mem: &mut [u64], budget: u64) -> Ran
     requires fitting { Fitting r.old (length mem.old) }
-    requires r_bound { (get_or r.old 0 0 < 2 ^ 24) × (budget ≤ 1000000) }
+    requires bounds { (get_or r.old 0 0 < 2 ^ 24) × (budget ≤ 1000000) }
     ensures { ended result.ending result.stray result.steps (state_of r.new) (sharing mem.new)
         ≡ run_of budget Clean 0 (state_of r.old) (sharing mem.old) }
 {

@@ -124,8 +124,8 @@ fn v_k(x: u64) -> usize
 
 // 140, 142, 144, 154, 156: Vi from Sj and Vk, of n elements.
 fn with(r: &mut [u64], op: TwoWords, x: u64, n: usize)
-    requires r_len { (length r.old ≡ 672) × ((registers_of r.old).vl ≡ n) × (n ≤ 64) }
-    requires x_value { x / 512 ≡ code_of_two op }
+    requires whole { (length r.old ≡ 672) × ((registers_of r.old).vl ≡ n) × (n ≤ 64) }
+    requires coded { x / 512 ≡ code_of_two op }
     ensures { Alone PastOne r.old r.new x }
 {
     let to = v_i(x);
@@ -140,8 +140,8 @@ fn with(r: &mut [u64], op: TwoWords, x: u64, n: usize)
 
 // 141, 143, 145, 155, 157: Vi from Vj and Vk.
 fn both(r: &mut [u64], op: TwoWords, x: u64, n: usize)
-    requires r_len { (length r.old ≡ 672) × ((registers_of r.old).vl ≡ n) × (n ≤ 64) }
-    requires x_value { x / 512 ≡ code_of_two op + 1 }
+    requires whole { (length r.old ≡ 672) × ((registers_of r.old).vl ≡ n) × (n ≤ 64) }
+    requires coded { x / 512 ≡ code_of_two op + 1 }
     ensures { Alone PastOne r.old r.new x }
 {
     let to = v_i(x);
@@ -213,7 +213,7 @@ fn two(
     right: usize,
     to: usize,
 )
-    requires r_len { (length r.old ≡ 672) × (masks.now ≡ two_masks) }
+    requires whole { (length r.old ≡ 672) × (masks.now ≡ two_masks) }
     requires left_bound { (left + 2 ≤ 672) × (right + 2 ≤ 672) × (to + 2 ≤ 672) }
     ensures { r.new ≡ merged_two r.old bits scalar s left right to }
 {
@@ -341,7 +341,7 @@ fn count(r: &mut [u64], x: u64) -> bool
 // 175: VM has a one for each element of Vj that meets the test.
 fn mark_where(r: &mut [u64], test: Test, x: u64) -> bool
     requires vector { Vector r.old }
-    requires x_value { (x / 512 ≡ 0o175) × (i_of x ≡ 0) × (k_of x ≡ digit_of test) }
+    requires coded { (x / 512 ≡ 0o175) × (i_of x ≡ 0) × (k_of x ≡ digit_of test) }
     ensures { Alone (pick result PastOne NotHeld) r.old r.new x }
 {
     let from = v_j(x);

@@ -6,15 +6,15 @@ use Rattle.access.proofs.place_of.Goals as goal
 
 pub overflow_mul-base : goal.overflow_mul-base
 unfolding frame_of
-overflow_mul-base c = record { fits = omega (arith, c.requires.r_bound.0) }
+overflow_mul-base c = record { fits = omega (arith, c.requires.bounds.0) }
 
 pub overflow_mul-limit : goal.overflow_mul-limit
 unfolding frame_of
-overflow_mul-limit c = record { fits = omega (arith, c.requires.r_bound.1) }
+overflow_mul-limit c = record { fits = omega (arith, c.requires.bounds.1) }
 
 pub overflow_add-sum : goal.overflow_add-sum
 unfolding frame_of
-overflow_add-sum c = record { fits = omega (arith, c.word_at-w.ensures, c.requires.r_bound) }
+overflow_add-sum c = record { fits = omega (arith, c.word_at-w.ensures, c.requires.bounds) }
 
 pub returns-then-below : goal.returns-then-below
 unfolding place_of frame_of

@@ -9,4 +9,4 @@ pub bounds-r-place : goal.bounds-r-place
 bounds-r-place c = omega (arith, control-low _ c.requires.control)
 
 pub returns : goal.returns
-returns c = to-control _ _ _ c.requires.r_len c.requires.control
+returns c = to-control _ _ _ c.requires.whole c.requires.control

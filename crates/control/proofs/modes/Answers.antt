@@ -16,7 +16,7 @@ returns-then-j-ne0 c =
 pub put_control-requires : goal.put_control-requires
 put_control-requires c =
     record {
-        r_len = c.requires.0;
+        whole = c.requires.0;
         control = inl (inr refl);
     }
 

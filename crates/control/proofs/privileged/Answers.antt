@@ -49,7 +49,7 @@ returns-then-user c =
 pub put_control-requires : goal.put_control-requires
 put_control-requires c =
     record {
-        r_len = c.requires.0;
+        whole = c.requires.0;
         control = inl (inl refl);
     }
 

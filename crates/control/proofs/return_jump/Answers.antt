@@ -10,7 +10,7 @@ use Rattle.control.proofs.return_jump.Goals as goal
 pub returns-then-i-ge4 : goal.returns-then-i-ge4
 unfolding code_of
 returns-then-i-ge4 c =
-    not-held _ _ _ _ (rw (c.requires.r_len.1, ← c.i.ensures, le-ltb _ _ c.if-i-ge4.true))
+    not-held _ _ _ _ (rw (c.requires.whole.1, ← c.i.ensures, le-ltb _ _ c.if-i-ge4.true))
 
 pub fetch-requires : goal.fetch-requires
 fetch-requires c =
@@ -19,7 +19,7 @@ fetch-requires c =
 pub returns-in_default : goal.returns-in_default
 unfolding code_of
 returns-in_default c =
-    lost _ _ _ _ _ return_jump (rw (c.requires.r_len.1, ← c.i.ensures, lt-ltb _ _ c.if-i-ge4.false))
+    lost _ _ _ _ _ return_jump (rw (c.requires.whole.1, ← c.i.ensures, lt-ltb _ _ c.if-i-ge4.false))
     (second _ _ _ _ _ c.on.ensures c.fetch.ensures _ _ c.requires.reaches c.in_default.is) c.no_parcel.ensures
 
 pub to-requires : goal.to-requires
@@ -29,5 +29,5 @@ to-requires c =
 pub returns : goal.returns
 unfolding code_of act
 returns c =
-    goes-two return_jump _ _ _ _ _ _ _ _ _ c.to.ensures c.set_b.ensures (rw (c.requires.r_len.1, ← c.i.ensures, lt-ltb _ _ c.if-i-ge4.false))
+    goes-two return_jump _ _ _ _ _ _ _ _ _ c.to.ensures c.set_b.ensures (rw (c.requires.whole.1, ← c.i.ensures, lt-ltb _ _ c.if-i-ge4.false))
     (second _ _ _ _ _ c.on.ensures c.fetch.ensures _ _ c.requires.reaches c.in-Parcel.is) (rw c.on-past.ensures)

@@ -11,7 +11,7 @@ use Rattle.control.proofs.set_mask.Goals.{else-i-eq0-via-then-i-eq0+else-k-eq0, 
 pub put_control-requires : goal.put_control-requires
 put_control-requires c =
     record {
-        r_len = c.requires.0;
+        whole = c.requires.0;
         control = inr (inl refl);
     }
 

@@ -9,28 +9,28 @@ use Rattle.control.proofs.set_mode.Goals as goal
 pub put_control-requires : goal.put_control-requires
 put_control-requires c =
     record {
-        r_len = c.requires.0;
+        whole = c.requires.0;
         control = inr (inr (inl refl));
     }
 
 pub put_control-requires-in-4 : goal.put_control-requires-in-4
 put_control-requires-in-4 c =
     record {
-        r_len = c.requires.0;
+        whole = c.requires.0;
         control = inr (inr (inl refl));
     }
 
 pub put_control-requires-in-5 : goal.put_control-requires-in-5
 put_control-requires-in-5 c =
     record {
-        r_len = c.requires.0;
+        whole = c.requires.0;
         control = inr (inr (inr refl));
     }
 
 pub put_control-requires-in-6 : goal.put_control-requires-in-6
 put_control-requires-in-6 c =
     record {
-        r_len = c.requires.0;
+        whole = c.requires.0;
         control = inr (inr (inr refl));
     }
 

@@ -7,14 +7,14 @@ use Rattle.dispatch.proofs.from_040.Goals as goal
 pub enter-requires : goal.enter-requires
 enter-requires c =
     record {
-        r_len = alone c.requires.ready c.requires.x_bound.0 c.requires.x_bound.1 c.in-32.is (λ c. refl);
+        whole = alone c.requires.ready c.requires.x_bound.0 c.requires.x_bound.1 c.in-32.is (λ c. refl);
         reaches = c.requires.ready.reaches;
     }
 
 pub enter-requires-in-33 : goal.enter-requires-in-33
 enter-requires-in-33 c =
     record {
-        r_len = alone c.requires.ready c.requires.x_bound.0 c.requires.x_bound.1 c.in-33.is (λ c. refl);
+        whole = alone c.requires.ready c.requires.x_bound.0 c.requires.x_bound.1 c.in-33.is (λ c. refl);
         reaches = c.requires.ready.reaches;
     }
 

@@ -19,7 +19,7 @@ from_a-requires c =
 pub read_control-requires : goal.read_control-requires
 read_control-requires c =
     record {
-        r_len = alone c.requires.ready c.requires.x_bound.0 c.requires.x_bound.1 c.in-59.is (λ c. refl);
+        whole = alone c.requires.ready c.requires.x_bound.0 c.requires.x_bound.1 c.in-59.is (λ c. refl);
         frame_ok = (c.requires.ready.frame, c.requires.ready.control, c.requires.ready.processor);
     }
 

@@ -7,28 +7,28 @@ use Rattle.dispatch.proofs.from_100.Goals as goal
 pub load-requires : goal.load-requires
 load-requires c =
     record {
-        r_len = (c.requires.ready.long, group _ _ _ c.requires.x_bound.0 c.requires.x_bound.1 c.in-64.is (λ c. refl));
+        whole = (c.requires.ready.long, group _ _ _ c.requires.x_bound.0 c.requires.x_bound.1 c.in-64.is (λ c. refl));
         reaches = c.requires.ready.reaches;
     }
 
 pub store-requires : goal.store-requires
 store-requires c =
     record {
-        r_len = (c.requires.ready.long, group _ _ _ c.requires.x_bound.0 c.requires.x_bound.1 c.in-72.is (λ c. refl));
+        whole = (c.requires.ready.long, group _ _ _ c.requires.x_bound.0 c.requires.x_bound.1 c.in-72.is (λ c. refl));
         reaches = c.requires.ready.reaches;
     }
 
 pub load-requires-in-80 : goal.load-requires-in-80
 load-requires-in-80 c =
     record {
-        r_len = (c.requires.ready.long, group _ _ _ c.requires.x_bound.0 c.requires.x_bound.1 c.in-80.is (λ c. refl));
+        whole = (c.requires.ready.long, group _ _ _ c.requires.x_bound.0 c.requires.x_bound.1 c.in-80.is (λ c. refl));
         reaches = c.requires.ready.reaches;
     }
 
 pub store-requires-in-88 : goal.store-requires-in-88
 store-requires-in-88 c =
     record {
-        r_len = (c.requires.ready.long, group _ _ _ c.requires.x_bound.0 c.requires.x_bound.1 c.in-88.is (λ c. refl));
+        whole = (c.requires.ready.long, group _ _ _ c.requires.x_bound.0 c.requires.x_bound.1 c.in-88.is (λ c. refl));
         reaches = c.requires.ready.reaches;
     }
 
@@ -60,14 +60,14 @@ pub read_v-requires : goal.read_v-requires
 read_v-requires c =
     record {
         ready = c.requires.ready;
-        x_value = own _ _ _ c.requires.x_bound.0 c.requires.x_bound.1 c.in-126.is (λ c. refl);
+        coded = own _ _ _ c.requires.x_bound.0 c.requires.x_bound.1 c.in-126.is (λ c. refl);
     }
 
 pub store_v-requires : goal.store_v-requires
 store_v-requires c =
     record {
         ready = c.requires.ready;
-        x_value = own _ _ _ c.requires.x_bound.0 c.requires.x_bound.1 c.in-127.is (λ c. refl);
+        coded = own _ _ _ c.requires.x_bound.0 c.requires.x_bound.1 c.in-127.is (λ c. refl);
     }
 
 pub returns-in-64 : goal.returns-in-64

@@ -9,7 +9,7 @@ use Rattle.dispatch.proofs.read_v.Goals as goal
 pub returns-then-j-ne0 : goal.returns-then-j-ne0
 unfolding code_of
 returns-then-j-ne0 c =
-    λ p. not-held _ _ p _ (rw (c.requires.x_value, ← c.j.ensures, ne_eqb _ _ c.if-j-ne0.true))
+    λ p. not-held _ _ p _ (rw (c.requires.coded, ← c.j.ensures, ne_eqb _ _ c.if-j-ne0.true))
 
 pub returns : goal.returns
 returns c =

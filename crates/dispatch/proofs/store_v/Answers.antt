@@ -8,7 +8,7 @@ use Rattle.dispatch.proofs.store_v.Goals as goal
 pub returns-then-i-ne0 : goal.returns-then-i-ne0
 unfolding code_of
 returns-then-i-ne0 c =
-    λ p. not-held _ _ p _ (rw (c.requires.x_value, ← c.i.ensures, ne_eqb _ _ c.if-i-ne0.true))
+    λ p. not-held _ _ p _ (rw (c.requires.coded, ← c.i.ensures, ne_eqb _ _ c.if-i-ne0.true))
 
 pub returns : goal.returns
 returns c =

@@ -22,7 +22,7 @@ returns-then-byte-eq65 c = (
   rw (
     ← c.byte.ensures,
     ne_eqb _ _ c.if-byte-eq32.false,
-    ← c.number-n.ensures.end_value.0,
+    ← c.number-n.ensures.after.0,
     ← c.byte-2.ensures,
     c.if-byte-eq65.true,
   ),
@@ -35,7 +35,7 @@ returns-else-byte-eq65 c = (
   rw (
     ← c.byte.ensures,
     ne_eqb _ _ c.if-byte-eq32.false,
-    ← c.number-n.ensures.end_value.0,
+    ← c.number-n.ensures.after.0,
     ← c.byte-2.ensures,
     ne_eqb _ _ c.if-byte-eq65.false,
   ),

@@ -110,8 +110,8 @@ with_number-requires c = (
     c.digit-j.ensures.1,
     c.digit-k.ensures.1,
   ),
-  c.number.ensures.value_value.1,
-  c.number.ensures.end_value.1,
+  c.number.ensures.number.1,
+  c.number.ensures.after.1,
 )
 
 pub returns : goal.returns
@@ -125,6 +125,6 @@ returns c =
       ← c.digit-j.ensures.0,
       ← c.digit-k.ensures.0,
       ne_eqb _ _ c.if-plans-plan-eq0.false,
-      c.number.ensures.value_value.0,
-      c.number.ensures.end_value.0,
+      c.number.ensures.number.0,
+      c.number.ensures.after.0,
     )

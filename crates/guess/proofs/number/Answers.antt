@@ -27,8 +27,8 @@ pub returns-after-loop-p : goal.returns-after-loop-p
 returns-after-loop-p c =
     let all = c.loop-p.invariant.2 ∙ number-full _ _ _ c.loop-p-test.false in
     record {
-      value_value = (rw all, c.loop-p.invariant.1);
-      end_value = (rw all, c.loop-p.invariant.0);
+      number = (rw all, c.loop-p.invariant.1);
+      after = (rw all, c.loop-p.invariant.0);
     }
 
 pub returns-then-b-lt48 : goal.returns-then-b-lt48
@@ -39,6 +39,6 @@ returns-then-b-lt48 c =
     ] in
     let all = c.loop-p.invariant.2 ∙ number-stops _ _ _ c.loop-p-test.true (rw (← c.byte-b.ensures) other) in
     record {
-      value_value = (rw all, c.loop-p.invariant.1);
-      end_value = (rw all, c.loop-p.invariant.0);
+      number = (rw all, c.loop-p.invariant.1);
+      after = (rw all, c.loop-p.invariant.0);
     }

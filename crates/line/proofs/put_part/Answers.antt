@@ -18,5 +18,5 @@ pub returns : goal.returns
 returns c =
     record {
       wrote = then c.put_operand-end.ensures c.put_signs.ensures.wrote;
-      forms_value = c.put_signs.ensures.forms_value;
+      rest = c.put_signs.ensures.rest;
     }

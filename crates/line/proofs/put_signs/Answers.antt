@@ -20,7 +20,7 @@ shape_of-line-then-b-eq0 c = c.loop-at.invariant.same
 pub returns-then-b-eq0 : goal.returns-then-b-eq0
 returns-then-b-eq0 c =
     let s = operand-next c.loop-at.invariant _ refl c.if-b-eq0.true in
-    record { wrote = s.0; forms_value = s.1 }
+    record { wrote = s.0; rest = s.1 }
 
 pub bounds-line-to : goal.bounds-line-to
 bounds-line-to c = omega (arith, room_next c.loop-at.invariant _ refl c.if-b-eq0.false, c.loop-at.invariant.same)
@@ -34,7 +34,7 @@ shape_of-line-then-b-eq10 c = simp length-set c.loop-at.invariant.same
 pub returns-then-b-eq10 : goal.returns-then-b-eq10
 returns-then-b-eq10 c =
     let s = newline-next c.loop-at.invariant _ refl c.if-b-eq0.false refl c.if-b-eq10.true in
-    record { wrote = s.0; forms_value = s.1 }
+    record { wrote = s.0; rest = s.1 }
 
 pub loop-at-smaller : goal.loop-at-smaller
 loop-at-smaller c =

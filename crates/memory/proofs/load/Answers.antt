@@ -11,12 +11,12 @@ fetch-requires c =
 
 pub returns-in_default : goal.returns-in_default
 returns-in_default c =
-    lost _ _ _ _ _ (loading c.args.file) (load_code_lem c.args.file _ _ c.requires.r_len.1)
+    lost _ _ _ _ _ (loading c.args.file) (load_code_lem c.args.file _ _ c.requires.whole.1)
     (second _ _ _ _ _ c.on.ensures c.fetch.ensures _ _ c.requires.reaches c.in_default.is) c.no_parcel.ensures
 
 pub indexed-n-requires : goal.indexed-n-requires
 indexed-n-requires c =
-    (c.requires.r_len.0, second-narrow _ _ _ _ _ c.on.ensures c.fetch.ensures _ c.in-Parcel.is)
+    (c.requires.whole.0, second-narrow _ _ _ _ _ c.on.ensures c.fetch.ensures _ c.in-Parcel.is)
 
 pub get-got-requires : goal.get-got-requires
 get-got-requires c =
@@ -25,4 +25,4 @@ get-got-requires c =
 pub returns : goal.returns
 returns c =
     loaded c.args.file _ _ _ _ _ _ _ _ _ c.requires.reaches (second _ _ _ _ _ c.on.ensures c.fetch.ensures _ _ c.requires.reaches c.in-Parcel.is)
-    c.indexed-n.ensures c.get-got.ensures.1 _ _ _ c.requires.r_len.1 c.get-got.ensures.0 c.set.ensures (search rules) c.ended.ensures
+    c.indexed-n.ensures c.get-got.ensures.1 _ _ _ c.requires.whole.1 c.get-got.ensures.0 c.set.ensures (search rules) c.ended.ensures

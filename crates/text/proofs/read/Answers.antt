@@ -15,7 +15,7 @@ returns-in-Passed c =
     record {
         value = rw (← e);
         mem_after = rw (← e) c.store_words.ensures;
-        result_value = rw (← e);
+        numbers = rw (← e);
         sheet_fits = ((subst CheckedFits c.in-Passed.is c.check.ensures.checked_fits).2, search rules);
     }
 
@@ -23,4 +23,4 @@ pub returns-in-Failed : goal.returns-in-Failed
 unfolding sheet_from sheet_of loaded_of memory_of
 returns-in-Failed c =
     let e = rw c.in-Failed.is at c.check.ensures.value in
-    record { value = rw (← e); mem_after = rw (← e); result_value = rw (← e); sheet_fits = (tt, refl) }
+    record { value = rw (← e); mem_after = rw (← e); numbers = rw (← e); sheet_fits = (tt, refl) }

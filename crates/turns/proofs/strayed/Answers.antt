@@ -6,8 +6,8 @@ use Rattle.turns.proofs.strayed.Goals as goal
 pub of-stray-requires : goal.of-stray-requires
 of-stray-requires c =
     record {
-        r_len = c.requires.fitting.long;
-        r_bound = (c.requires.fitting.frame.dba, c.requires.fitting.frame.dla);
+        whole = c.requires.fitting.long;
+        bounds = (c.requires.fitting.frame.dba, c.requires.fitting.frame.dla);
     }
 
 pub overflow_add-result : goal.overflow_add-result

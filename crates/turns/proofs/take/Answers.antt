@@ -27,7 +27,7 @@ pub stretch-came-requires : goal.stretch-came-requires
 stretch-came-requires c =
     record {
         fitting = c.loop-steps.invariant.fitting;
-        r_bound = (c.loop-steps.invariant.p, omega (arith, c.requires.r_bound.1));
+        bounds = (c.loop-steps.invariant.p, omega (arith, c.requires.bounds.1));
     }
 
 pub end-next-requires : goal.end-next-requires
@@ -40,7 +40,7 @@ end-next-requires c =
 pub overflow_add-steps : goal.overflow_add-steps
 overflow_add-steps c =
     let u = runs_on _ _ _ _ _ _ _ _ _ _ _ _ _ _ _ _ _ c.loop-steps.invariant c.loop-steps-test.true (sym c.last_goes.ensures ∙ c.if-last_goes.true) c.stretch-came.ensures c.end-next.ensures in
-    omega (arith, u.0.within, c.requires.r_bound.1)
+    omega (arith, u.0.within, c.requires.bounds.1)
 
 pub loop-steps-smaller : goal.loop-steps-smaller
 loop-steps-smaller c =

@@ -29,11 +29,11 @@ loop-e-preserved c =
 
 pub set_control-requires : goal.set_control-requires
 set_control-requires c = record {
-        r_len = search rules;
+        whole = search rules;
         control = inr (inl refl);
     }
 
 pub returns : goal.returns
 returns c =
     let e : c.loop-e.e ≡ (registers_of c.args.r.now).vl = omega arith in
-    marking _ _ _ c.args.test c.requires.x_value (rw (c.loop-e.invariant.1, e) at c.set_control.ensures)
+    marking _ _ _ c.args.test c.requires.coded (rw (c.loop-e.invariant.1, e) at c.set_control.ensures)

@@ -14,7 +14,7 @@ loop-e-init c = (begins _ _ _ _ (search rules), omega arith, omega arith, omega 
 pub two-requires-in-loop-e : goal.two-requires-in-loop-e
 two-requires-in-loop-e c =
     record {
-        r_len = (search rules, c.requires.1);
+        whole = (search rules, c.requires.1);
         left_bound = omega arith;
     }
 

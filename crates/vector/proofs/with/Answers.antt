@@ -18,4 +18,4 @@ loop-e-preserved c =
 
 pub returns : goal.returns
 returns c =
-    with-sj _ _ _ c.args.op c.requires.x_value (ends c.loop-e.invariant (omega arith))
+    with-sj _ _ _ c.args.op c.requires.coded (ends c.loop-e.invariant (omega arith))

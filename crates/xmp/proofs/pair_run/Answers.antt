@@ -13,7 +13,7 @@ returns-then-no-ne0 c = record { call = rw (← c.of_pair-no.ensures, ne_eqb _ 0
 pub take_schedule-requires : goal.take_schedule-requires
 take_schedule-requires c =
     let allowed = pair-allowed _ _ _ (search rules) (sym c.of_pair-no.ensures ∙ c.if-no-ne0.false) in
-    record { pair_len = allowed.0; both = allowed.1 }
+    record { whole = allowed.0; both = allowed.1 }
 
 pub returns : goal.returns
 unfolding pair_call

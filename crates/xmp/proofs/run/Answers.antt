@@ -13,7 +13,7 @@ returns-then-no-ne0 c = record { call = rw (← c.of_run-no.ensures, ne_eqb _ 0 
 pub run-requires : goal.run-requires
 run-requires c =
     let allowed = run-allowed _ _ (search rules) _ (sym c.of_run-no.ensures ∙ c.if-no-ne0.false) in
-    record { fitting = allowed.0; r_bound = allowed.1 }
+    record { fitting = allowed.0; bounds = allowed.1 }
 
 pub returns : goal.returns
 unfolding run_call

@@ -14,7 +14,7 @@ returns-then-no-ne0 c = record { call = rw (← c.of_step-no.ensures, ne_eqb _ 0
 pub turn-turned-requires : goal.turn-turned-requires
 turn-turned-requires c =
     let allowed = step-allowed _ _ (search rules) _ (omega arith) (sym c.of_step-no.ensures ∙ c.if-no-ne0.false) in
-    record { fitting = allowed.0; r_bound = allowed.1 }
+    record { fitting = allowed.0; bounds = allowed.1 }
 
 pub returns : goal.returns
 unfolding step_call

@@ -6,8 +6,8 @@ use Rattle.memory.proofs.blocks.read_block.Goals as goal
 pub read-requires : goal.read-requires
 read-requires c =
     record {
-        r_len = (
-        c.requires.r_len.0,
+        whole = (
+        c.requires.whole.0,
         block-low c.args.b _ c.place.ensures,
         omega (arith, c.jk.ensures),
         omega
@@ -18,5 +18,5 @@ read-requires c =
 
 pub returns : goal.returns
 returns c =
-    block-read c.args.b _ _ _ _ _ _ c.requires.window _ (search rules) c.requires.r_len.1
+    block-read c.args.b _ _ _ _ _ _ c.requires.window _ (search rules) c.requires.whole.1
     (rw (c.place.ensures, c.jk.ensures, c.block.ensures) at c.read.ensures)

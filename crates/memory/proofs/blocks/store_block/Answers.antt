@@ -6,8 +6,8 @@ use Rattle.memory.proofs.blocks.store_block.Goals as goal
 pub store-requires : goal.store-requires
 store-requires c =
     record {
-        r_len = (
-        c.requires.r_len.0,
+        whole = (
+        c.requires.whole.0,
         block-low c.args.b _ c.place.ensures,
         omega
             (arith, c.jk.ensures),
@@ -18,5 +18,5 @@ store-requires c =
 
 pub returns : goal.returns
 returns c =
-    block-stored c.args.b _ _ _ _ _ _ c.requires.window _ c.requires.r_len.0 c.requires.r_len.1
+    block-stored c.args.b _ _ _ _ _ _ c.requires.window _ c.requires.whole.0 c.requires.whole.1
     (rw (c.place.ensures, c.jk.ensures, c.block.ensures) at c.store.ensures)

@@ -6,11 +6,11 @@ use Rattle.memory.proofs.blocks.store_v.Goals as goal
 pub store-requires : goal.store-requires
 store-requires c =
     record {
-        r_len = (c.requires.r_len.0, omega (arith, c.j.ensures), omega arith, omega (arith, c.vl-n.ensures, c.requires.r_len.3));
+        whole = (c.requires.whole.0, omega (arith, c.j.ensures), omega arith, omega (arith, c.vl-n.ensures, c.requires.whole.3));
         held = held _ _ _ _ c.requires.window;
     }
 
 pub returns : goal.returns
 returns c =
-    vector-stored _ _ _ _ _ _ c.requires.window c.requires.r_len.3 _ c.requires.r_len.0 c.requires.r_len.1 c.requires.r_len.2
+    vector-stored _ _ _ _ _ _ c.requires.window c.requires.whole.3 _ c.requires.whole.0 c.requires.whole.1 c.requires.whole.2
     (rw (c.j.ensures, c.vl-n.ensures, c.a_k-by.ensures) at c.store.ensures)

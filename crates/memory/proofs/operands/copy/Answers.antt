@@ -18,17 +18,17 @@ overflow_add-at c =
 
 pub sixteen-requires : goal.sixteen-requires
 sixteen-requires c =
-    let l : c.loop-e.e + 15 < c.args.n = omega (arith, c.requires.n_value) in
+    let l : c.loop-e.e + 15 < c.args.n = omega (arith, c.requires.sixteens) in
     omega (arith, (c.requires.by_index (c.loop-e.e + 15) l).1)
 
 pub put_sixteen-requires : goal.put_sixteen-requires
 put_sixteen-requires c =
-    let l : c.loop-e.e + 15 < c.args.n = omega (arith, c.requires.n_value) in
+    let l : c.loop-e.e + 15 < c.args.n = omega (arith, c.requires.sixteens) in
     omega (arith, (c.requires.by_index (c.loop-e.e + 15) l).0)
 
 pub overflow_add-e : goal.overflow_add-e
 overflow_add-e c =
-    let l : c.loop-e.e + 15 < c.args.n = omega (arith, c.requires.n_value) in
+    let l : c.loop-e.e + 15 < c.args.n = omega (arith, c.requires.sixteens) in
     omega (arith, (c.requires.by_index (c.loop-e.e + 15) l).1, c.well_formed)
 
 pub loop-e-preserved : goal.loop-e-preserved

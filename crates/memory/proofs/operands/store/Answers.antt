@@ -5,15 +5,15 @@ use Rattle.memory.proofs.operands.store.Goals as goal
 
 pub copy-requires : goal.copy-requires
 copy-requires c =
-    let k = straight-known _ _ _ _ _ _ c.requires.r_len.2 c.straight-whole.ensures in record {
-        n_value = k.sixteens;
+    let k = straight-known _ _ _ _ _ _ c.requires.whole.2 c.straight-whole.ensures in record {
+        sixteens = k.sixteens;
         by_index = λ e l.
           (omega (arith, c.word_at-w.ensures, c.requires.held.inside (c.a_0-from.result % 2 ^ 22 + e) (k.inside e l)), omega (arith, k.registers));
     }
 
 pub loop-e-init : goal.loop-e-init
 loop-e-init c =
-    let k = straight-known _ _ _ _ _ _ c.requires.r_len.2 c.straight-whole.ensures in (
+    let k = straight-known _ _ _ _ _ _ c.requires.whole.2 c.straight-whole.ensures in (
       k.most,
       search rules,
       omega (arith, k.address c.straight-whole.result (omega arith), c.wrapping_add_u64-at.ensures.value),
@@ -23,7 +23,7 @@ loop-e-init c =
 
 pub place-requires : goal.place-requires
 place-requires c =
-    (c.requires.r_len.1, c.requires.r_len.2, omega (arith, c.loop-e-test.true, c.requires.r_len.3))
+    (c.requires.whole.1, c.requires.whole.2, omega (arith, c.loop-e-test.true, c.requires.whole.3))
 
 pub put-o-requires : goal.put-o-requires
 put-o-requires c =
@@ -44,7 +44,7 @@ loop-e-preserved c =
 pub returns : goal.returns
 returns c =
     let e : c.loop-e.e ≡ c.args.row.n = omega arith in
-    let k = straight-known _ _ _ _ _ _ c.requires.r_len.2 c.straight-whole.ensures in
+    let k = straight-known _ _ _ _ _ _ c.requires.whole.2 c.straight-whole.ensures in
     let g = straight-stored c.args.first _ _ _ _ _ _ c.requires.held.short k c.args.row.file c.args.r.now c.args.mem.now _
     (rw c.word_at-w.ensures at c.copy.ensures) in
     rw (← c.a_0-from.ensures, ← e) record { became = c.loop-e.invariant.4 c.args.mem.now g; beyond = c.loop-e.invariant.3 }

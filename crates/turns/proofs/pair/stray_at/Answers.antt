@@ -4,7 +4,7 @@ use Rattle.turns.proofs.pair.stray_at.Goals as goal
 
 pub of-requires : goal.of-requires
 of-requires c =
-    record { r_len = rw seen (part-long _ _ c.requires.pair_len.1 c.requires.pair_len.0); r_bound = rw seen c.requires.pair_bound }
+    record { whole = rw seen (part-long _ _ c.requires.whole.1 c.requires.whole.0); bounds = rw seen c.requires.bounds }
 
 pub returns : goal.returns
 returns c =

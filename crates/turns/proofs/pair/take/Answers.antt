@@ -11,20 +11,20 @@ use Rattle.turns.proofs.pair.take.Goals.{then-schedule-n, else-schedule-n}
 pub reach_at-first-requires : goal.reach_at-first-requires
 reach_at-first-requires c =
     record {
-        pair_len = (c.requires.pair_len.0, (omega arith, inl refl));
+        whole = (c.requires.whole.0, (omega arith, inl refl));
         fitting = c.requires.both.first;
     }
 
 pub reach_at-second-requires : goal.reach_at-second-requires
 reach_at-second-requires c =
     record {
-        pair_len = (c.requires.pair_len.0, (omega arith, inr refl));
+        whole = (c.requires.whole.0, (omega arith, inr refl));
         fitting = c.requires.both.second;
     }
 
 pub loop-n-init : goal.loop-n-init
 loop-n-init c =
-    begins _ _ _ _ _ _ c.requires.pair_len.2 c.requires.pair_len.0 c.requires.both.first.least
+    begins _ _ _ _ _ _ c.requires.whole.2 c.requires.whole.0 c.requires.both.first.least
     (record { first = c.reach_at-first.ensures; second = c.reach_at-second.ensures; narrow = c.requires.both.narrow })
 
 pub pass-next-requires : goal.pass-next-requires
@@ -38,7 +38,7 @@ step_at-w-requires c =
         | else-schedule-n t ↦ stayed _ _ _ _ _ _ _ _ _ _ c.loop-n.invariant _ _ t.if-schedule-n.false t.pair-is t.next-is
         ] in
     let s = here.0.stands in record {
-        pair_len = (here.0.whole, s.side);
+        whole = (here.0.whole, s.side);
         ready = s.here;
         p_bound = s.narrow;
     }
@@ -49,7 +49,7 @@ shape_of-pair-in_default c =
           then-schedule-n t ↦ passed _ _ _ _ _ _ _ _ _ _ c.loop-n.invariant _ _ _ _ t.pass-next.ensures.passes t.pass-next.ensures.at_value (search rules) t.pair-is t.next-is
         | else-schedule-n t ↦ stayed _ _ _ _ _ _ _ _ _ _ c.loop-n.invariant _ _ t.if-schedule-n.false t.pair-is t.next-is
         ] in
-    search (rules, here.0.whole, c.requires.pair_len.0)
+    search (rules, here.0.whole, c.requires.whole.0)
 
 pub returns-in_default : goal.returns-in_default
 returns-in_default c =
@@ -62,7 +62,7 @@ returns-in_default c =
 
 pub overflow_add-n : goal.overflow_add-n
 overflow_add-n c =
-    search (rules, c.loop-n-test.true, c.requires.pair_len.1)
+    search (rules, c.loop-n-test.true, c.requires.whole.1)
 
 pub loop-n-preserved : goal.loop-n-preserved
 loop-n-preserved c =

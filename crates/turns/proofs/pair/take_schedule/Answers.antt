@@ -11,36 +11,36 @@ use Rattle.turns.proofs.pair.take_schedule.Goals as goal
 pub take-burst-requires : goal.take-burst-requires
 take-burst-requires c =
     record {
-        pair_len = (c.requires.pair_len.0, c.requires.pair_len.1, omega arith);
+        whole = (c.requires.whole.0, c.requires.whole.1, omega arith);
         both = c.requires.both;
     }
 
 pub loop-burst-init : goal.loop-burst-init
 loop-burst-init c =
-    record { size = search (rules, c.requires.pair_len.0); long = refl; coming = c.take-burst.ensures.coming; rest = refl }
+    record { size = search (rules, c.requires.whole.0); long = refl; coming = c.take-burst.ensures.coming; rest = refl }
 
 pub stray_at-stray-requires : goal.stray_at-stray-requires
 stray_at-stray-requires c =
     record {
-        pair_len = (c.loop-burst.invariant.size, c.loop-burst.invariant.coming.side);
-        pair_bound = (c.loop-burst.invariant.coming.fitting.frame.dba, c.loop-burst.invariant.coming.fitting.frame.dla);
+        whole = (c.loop-burst.invariant.size, c.loop-burst.invariant.coming.side);
+        bounds = (c.loop-burst.invariant.coming.fitting.frame.dba, c.loop-burst.invariant.coming.fitting.frame.dla);
     }
 
 pub finish_at-answer-requires : goal.finish_at-answer-requires
 finish_at-answer-requires c =
     record {
-        pair_len = (c.loop-burst.invariant.size, c.loop-burst.invariant.coming.side);
+        whole = (c.loop-burst.invariant.size, c.loop-burst.invariant.coming.side);
         fitting = c.loop-burst.invariant.coming.fitting;
         p_bound = (c.loop-burst.invariant.coming.narrow, c.loop-burst.invariant.coming.work);
     }
 
 pub overflow_add-result : goal.overflow_add-result
 overflow_add-result c =
-    omega (arith, c.count_of.ensures.1, c.loop-burst.invariant.coming.steps, c.requires.pair_len.1)
+    omega (arith, c.count_of.ensures.1, c.loop-burst.invariant.coming.steps, c.requires.whole.1)
 
 pub shape_of-pair-then-not-answer_goes : goal.shape_of-pair-then-not-answer_goes
 shape_of-pair-then-not-answer_goes c =
-    search (rules, c.loop-burst.invariant.size, c.requires.pair_len.0)
+    search (rules, c.loop-burst.invariant.size, c.requires.whole.0)
 
 pub shape_of-mem-then-not-answer_goes : goal.shape_of-mem-then-not-answer_goes
 shape_of-mem-then-not-answer_goes c =
@@ -48,18 +48,18 @@ shape_of-mem-then-not-answer_goes c =
 
 pub returns-then-not-answer_goes : goal.returns-then-not-answer_goes
 returns-then-not-answer_goes c =
-    rw c.count_of.ensures.0 (last_step _ _ _ _ _ _ _ _ _ _ _ _ c.loop-burst.invariant c.loop-burst-test.true c.stray_at-stray.ensures c.finish_at-answer.ensures.mem_after c.finish_at-answer.ensures.pair_unchanged (search (rules, c.loop-burst.invariant.size))
+    rw c.count_of.ensures.0 (last_step _ _ _ _ _ _ _ _ _ _ _ _ c.loop-burst.invariant c.loop-burst-test.true c.stray_at-stray.ensures c.finish_at-answer.ensures.finished c.finish_at-answer.ensures.pair_unchanged (search (rules, c.loop-burst.invariant.size))
     c.newer-strays.ensures.0 c.newer-strays.ensures.1 (sym c.answer_goes.ensures ∙ not-true _ c.if-not-answer_goes.true-raw) ∙ c.take-burst.ensures.run Clean Clean)
 
 pub overflow_add-n : goal.overflow_add-n
 overflow_add-n c =
-    omega (arith, c.loop-burst-test.true, c.requires.pair_len.1)
+    omega (arith, c.loop-burst-test.true, c.requires.whole.1)
 
 pub take-burst-requires-in-loop-burst : goal.take-burst-requires-in-loop-burst
 take-burst-requires-in-loop-burst c =
     record {
-        pair_len = (search (rules, c.loop-burst.invariant.size), c.requires.pair_len.1, omega (arith, c.loop-burst-test.true));
-        both = both _ _ _ _ _ _ _ _ _ _ _ _ c.loop-burst.invariant c.loop-burst-test.true c.stray_at-stray.ensures c.finish_at-answer.ensures.mem_after c.finish_at-answer.ensures.pair_unchanged (search (rules, c.loop-burst.invariant.size))
+        whole = (search (rules, c.loop-burst.invariant.size), c.requires.whole.1, omega (arith, c.loop-burst-test.true));
+        both = both _ _ _ _ _ _ _ _ _ _ _ _ c.loop-burst.invariant c.loop-burst-test.true c.stray_at-stray.ensures c.finish_at-answer.ensures.finished c.finish_at-answer.ensures.pair_unchanged (search (rules, c.loop-burst.invariant.size))
           c.newer-strays.ensures.0 c.newer-strays.ensures.1;
     }
 
@@ -69,9 +69,9 @@ loop-burst-smaller c =
 
 pub loop-burst-preserved : goal.loop-burst-preserved
 loop-burst-preserved c =
-    turning _ _ _ _ _ _ _ _ _ _ c.take-burst-in-loop-burst.ensures (search (rules, c.loop-burst.invariant.size)) (memory-long _ _ _ _ _ _ _ _ _ _ _ _ c.loop-burst.invariant c.loop-burst-test.true c.stray_at-stray.ensures c.finish_at-answer.ensures.mem_after c.finish_at-answer.ensures.pair_unchanged (search (rules, c.loop-burst.invariant.size))
+    turning _ _ _ _ _ _ _ _ _ _ c.take-burst-in-loop-burst.ensures (search (rules, c.loop-burst.invariant.size)) (memory-long _ _ _ _ _ _ _ _ _ _ _ _ c.loop-burst.invariant c.loop-burst-test.true c.stray_at-stray.ensures c.finish_at-answer.ensures.finished c.finish_at-answer.ensures.pair_unchanged (search (rules, c.loop-burst.invariant.size))
     c.newer-strays.ensures.0 c.newer-strays.ensures.1)
-    (next-step _ _ _ _ _ _ _ _ _ _ _ _ c.loop-burst.invariant c.loop-burst-test.true c.stray_at-stray.ensures c.finish_at-answer.ensures.mem_after c.finish_at-answer.ensures.pair_unchanged (search (rules, c.loop-burst.invariant.size))
+    (next-step _ _ _ _ _ _ _ _ _ _ _ _ c.loop-burst.invariant c.loop-burst-test.true c.stray_at-stray.ensures c.finish_at-answer.ensures.finished c.finish_at-answer.ensures.pair_unchanged (search (rules, c.loop-burst.invariant.size))
     c.newer-strays.ensures.0 c.newer-strays.ensures.1 (sym c.answer_goes.ensures ∙ not-false _ c.if-not-answer_goes.false-raw))
 
 pub keep_p-requires : goal.keep_p-requires
@@ -80,7 +80,7 @@ keep_p-requires c =
 
 pub shape_of-pair : goal.shape_of-pair
 shape_of-pair c =
-    search (rules, c.loop-burst.invariant.size, c.requires.pair_len.0)
+    search (rules, c.loop-burst.invariant.size, c.requires.whole.0)
 
 pub shape_of-mem : goal.shape_of-mem
 shape_of-mem c =
