@@ -42,7 +42,7 @@ lines-preserved c = (
   c.lines.invariant.1
       ∙ line-good _ _ _ _ c.if-text-at.false (omega arith) (right _ _
       (c.loop-d.invariant.2 ∙ all_done 8 _ 6 _ _ c.loop-d-test.false) c.if-text-at-ne10.false _
-      (c.loop-d.invariant.3 ∙ number-done 8 _ 6 _ _ c.loop-d-test.false _) c.if-p-gt65535.false),
+      (c.loop-d.invariant.3 ∙ number-done 8 _ 6 _ _ c.loop-d-test.false _) c.if-p-gt-LARGEST.false),
 )
 
 pub returns-then-text-at : goal.returns-then-text-at
@@ -62,9 +62,9 @@ returns-then-text-at-ne10 c =
     sym (c.lines.invariant.1
     ∙ line-bad _ _ _ _ c.if-text-at.false (no_end _ _ c.if-text-at-ne10.true))
 
-pub returns-then-p-gt65535 : goal.returns-then-p-gt65535
-returns-then-p-gt65535 c =
+pub returns-then-p-gt-LARGEST : goal.returns-then-p-gt-LARGEST
+returns-then-p-gt-LARGEST c =
     sym (c.lines.invariant.1 ∙ line-bad _ _ _ _
     c.if-text-at.false (too_large _ _ (c.loop-d.invariant.2
     ∙ all_done 8 _ 6 _ _ c.loop-d-test.false) c.if-text-at-ne10.false _ (c.loop-d.invariant.3
-    ∙ number-done 8 _ 6 _ _ c.loop-d-test.false _) c.if-p-gt65535.true))
+    ∙ number-done 8 _ 6 _ _ c.loop-d-test.false _) c.if-p-gt-LARGEST.true))
