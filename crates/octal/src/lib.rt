@@ -9,6 +9,9 @@ ghost use Rattle.octal.specs.Lines.{parcel_text, parcels_text, first_bad, parcel
 ghost use Rattle.octal.specs.Words.{word_at, word_text, words_text};
 ghost use Rattle.octal.specs.Refusals.{refused_text, refused_line};
 
+// The largest number that a parcel holds.
+const LARGEST: u64 = 65535;
+
 // What a text of parcels was read as: so many parcels; or its first bad line; or more parcels than there is room for.
 #[derive(Clone, Copy)]
 pub enum Reading {
@@ -112,7 +115,7 @@ fn bad_line(text: &[u8]) -> usize
         if text[at + 6] != 10 {
             break 'lines line;
         }
-        if 65535 < p {
+        if LARGEST < p {
             break 'lines line;
         }
         at += 7;

@@ -1,0 +1,26 @@
+use mathlib.Core.Path.{◌≡◌, sym, ◌∙◌}
+use Prim.Native.Nat.{◌+◌, ◌*◌, ◌-◌, ◌^◌, ◌≤◌, ◌<◌}
+use native.Mathlib.Nat.{add-zero, add_assoc}
+use native.Mathlib.Omega.{arith}
+use lib.ListN.{length}
+use lib.Dec.{lit<}
+use Rattle.text.proofs.Reading.{digit-more, digits-most}
+use Rattle.octal.specs.Numbers.{all_digits, number_from}
+use Rattle.octal.specs.Lines.{bad_line}
+use Rattle.octal.proofs.Digit.{number-next, number-done, all-next, all-not, all_done}
+use Rattle.octal.proofs.Line.{one-back, no-digits, no_end, too_short, too_large, right, line-none, line-bad, line-good}
+use borrow.Author.Rules.{rules}
+use Rattle.octal.proofs.bad_line.Given as goal
+
+abbrev pub invariant-loop-d : goal.invariant-loop-d
+invariant-loop-d l =
+    (l.d ≤ 6) × (l.p < 8 ^ l.d) × (all_digits 8 6 l.text l.at ≡ all_digits 8 (6 - l.d) l.text (l.at + l.d)) × (number_from 8 6 l.text l.at 0 ≡ number_from 8 (6 - l.d) l.text (l.at + l.d) l.p)
+
+abbrev pub decreases-loop-d : goal.decreases-loop-d
+decreases-loop-d l = 6 - l.d
+
+abbrev pub invariant-lines : goal.invariant-lines
+invariant-lines l = (l.at + 7 ≡ 7 * l.line) × (bad_line (length l.text) l.text 0 1 ≡ bad_line (length l.text + 1 - l.line) l.text l.at l.line)
+
+abbrev pub decreases-lines : goal.decreases-lines
+decreases-lines l = length l.text - l.at

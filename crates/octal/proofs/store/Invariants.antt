@@ -1,0 +1,21 @@
+use mathlib.Core.Path.{◌≡◌, refl, sym, ◌∙◌}
+use Prim.Native.Nat.{◌+◌, ◌*◌, ◌-◌, ◌≤◌, ◌<◌}
+use native.Mathlib.Nat.{sub-zero}
+use native.Mathlib.Omega.{arith}
+use lib.ListN.{length, length-set}
+use lib.Seq.{sets}
+use Rattle.octal.specs.Lines.{bad_line, parcels_from}
+use Rattle.octal.proofs.Line.{one-back, narrow, line-good, line-right, store-next, store-done}
+use borrow.Author.Rules.{rules}
+use Rattle.octal.proofs.store.Given as goal
+
+abbrev pub invariant-loop-i : goal.invariant-loop-i
+invariant-loop-i l =
+    (l.i ≤ l.n)
+    × (l.at ≡ 7 * l.i)
+    × (length l.room ≡ length l.initial.room)
+    × (bad_line (length l.text + 1 - (l.i + 1)) l.text l.at (l.i + 1) ≡ 0)
+    × (sets l.initial.room 0 (parcels_from l.n l.text 0) ≡ sets l.room l.i (parcels_from (l.n - l.i) l.text l.at))
+
+abbrev pub decreases-loop-i : goal.decreases-loop-i
+decreases-loop-i l = l.n - l.i
