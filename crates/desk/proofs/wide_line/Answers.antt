@@ -9,7 +9,7 @@ use Rattle.desk.proofs.wide_line.Goals as goal
 pub returns-then-parcels-lt1 : goal.returns-then-parcels-lt1
 returns-then-parcels-lt1 c = record {
   wrote = (wrote_as (wide-none _ _ c.if-parcels-lt1.true) (wrote_none _ _), omega arith);
-  parcels_value = (none_in _ c.if-parcels-lt1.true, omega arith, λ h. omega arith);
+  taken = (none_in _ c.if-parcels-lt1.true, omega arith, λ h. omega arith);
 }
 
 pub overflow_cast-x : goal.overflow_cast-x
@@ -54,7 +54,7 @@ returns-then-not-has_second c =
           c.put_cal.ensures.1,
         ),
       );
-      parcels_value = (
+      taken = (
         one_in _ c.if-parcels-lt1.false second,
         c.if-parcels-lt1.false,
         λ h. omega arith,
@@ -95,7 +95,7 @@ returns-then-parcels-lt2 c =
           c.put_data.ensures.1,
         ),
       );
-      parcels_value = (
+      taken = (
         last-in _ c.if-parcels-lt1.false c.if-parcels-lt2.true,
         c.if-parcels-lt1.false,
         λ h. omega arith,
@@ -142,7 +142,7 @@ returns c =
           c.put_cal-2.ensures.1,
         ),
       );
-      parcels_value = (
+      taken = (
         two_in _ c.if-parcels-lt2.false second,
         c.if-parcels-lt2.false,
         λ h. omega arith,
