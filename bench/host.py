@@ -85,7 +85,7 @@ def loader():
     folder = kit()
     if not folder:
         raise Wrong("rt is missing")
-    tools = os.path.join(folder, "on", MACHINE, "toolchain", "lib")
+    tools = os.path.join(folder, "toolchain", "lib")
     return [os.path.join(tools, "ld-linux-x86-64.so.2"), "--library-path", tools]
 
 
@@ -95,4 +95,4 @@ def kit():
     if not shutil.which("rt"):
         return None
     guide = subprocess.run(["rt", "doc"], stdout=subprocess.PIPE, text=True, check=True)
-    return os.path.dirname(os.path.dirname(guide.stdout.strip()))
+    return os.path.dirname(guide.stdout.strip())
