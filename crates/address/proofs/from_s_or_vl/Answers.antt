@@ -34,6 +34,6 @@ unfolding code_of
 returns c =
     λ p mem. not-held _ mem p _ (rw (c.requires.1, ← c.k-last.ensures, ← c.j.ensures)
     (simp (ne_eqb _ _ c.if-last-eq0.false) (elim c.else-j-eq0.branch [
-      else-j-eq0-via-then-j-eq0+else-last-eq1 w ↦ rw (w.if-j-eq0.true, w.if-last-eq1.false-raw)
-    | else-j-eq0-via-else-j-eq0 w ↦ simp (ne_eqb _ _ w.if-j-eq0.false)
+      | else-j-eq0-via-then-j-eq0+else-last-eq1 w ↦ rw (w.if-j-eq0.true, w.if-last-eq1.false-raw)
+      | else-j-eq0-via-else-j-eq0 w ↦ simp (ne_eqb _ _ w.if-j-eq0.false)
     ])))

@@ -14,14 +14,14 @@ pub returns-in-Good : goal.returns-in-Good
 unfolding zeros
 returns-in-Good c =
     record {
-        wrote = rw (← good-answer c.args.sheet.now _ _ _ _ _ _ _ (sym c.read.ensures.value ∙ c.in-Good.is) c.read.ensures.mem_after
+      wrote = rw (← good-answer c.args.sheet.now _ _ _ _ _ _ _ (sym c.read.ensures.value ∙ c.in-Good.is) c.read.ensures.mem_after
           c.run_package-ran.ensures) c.report.ensures.wrote;
-        upper_bound = omega (arith, c.report.ensures.upper_bound (omega arith));
+      upper_bound = omega (arith, c.report.ensures.upper_bound (omega arith));
     }
 
 pub returns-in-Bad : goal.returns-in-Bad
 returns-in-Bad c =
     record {
-        wrote = rw (← bad-answer c.args.sheet.now _ (sym c.read.ensures.value ∙ c.in-Bad.is)) c.refused.ensures.0;
-        upper_bound = omega arith;
+      wrote = rw (← bad-answer c.args.sheet.now _ (sym c.read.ensures.value ∙ c.in-Bad.is)) c.refused.ensures.0;
+      upper_bound = omega arith;
     }

@@ -16,8 +16,8 @@ returns-then-j-ne0 c =
 pub put_control-requires : goal.put_control-requires
 put_control-requires c =
     record {
-        whole = c.requires.0;
-        control = inl (inr refl);
+      whole = c.requires.0;
+      control = inl (inr refl);
     }
 
 pub returns-then-i-eq0 : goal.returns-then-i-eq0
@@ -41,21 +41,20 @@ returns-then-k-ne0 c =
     ))
 
 pub set_mode-requires : goal.set_mode-requires
-set_mode-requires c =
-    (
-      c.requires.0,
-      c.requires.1,
-      rw (
-        ← c.j.ensures,
-        c.if-j-ne0.false,
-      ),
-      rw (← c.k.ensures, c.if-k-ne0.false),
-      omega (
-        arith,
-        c.i-i.ensures,
-        c.if-i-eq0.false,
-      ),
-    )
+set_mode-requires c = (
+  c.requires.0,
+  c.requires.1,
+  rw (
+    ← c.j.ensures,
+    c.if-j-ne0.false,
+  ),
+  rw (← c.k.ensures, c.if-k-ne0.false),
+  omega (
+    arith,
+    c.i-i.ensures,
+    c.if-i-eq0.false,
+  ),
+)
 
 pub returns : goal.returns
 returns c = c.set_mode.ensures

@@ -49,8 +49,8 @@ returns-then-user c =
 pub put_control-requires : goal.put_control-requires
 put_control-requires c =
     record {
-        whole = c.requires.0;
-        control = inl (inl refl);
+      whole = c.requires.0;
+      control = inl (inl refl);
     }
 
 pub returns : goal.returns

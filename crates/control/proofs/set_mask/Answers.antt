@@ -11,8 +11,8 @@ use Rattle.control.proofs.set_mask.Goals.{else-i-eq0-via-then-i-eq0+else-k-eq0, 
 pub put_control-requires : goal.put_control-requires
 put_control-requires c =
     record {
-        whole = c.requires.0;
-        control = inr (inl refl);
+      whole = c.requires.0;
+      control = inr (inl refl);
     }
 
 pub returns-then-k-eq0 : goal.returns-then-k-eq0
@@ -26,6 +26,6 @@ unfolding code_of
 returns-else-i-eq0 c =
     λ p mem. not-held _ mem p _ (rw (c.requires.1, ← c.i.ensures)
     (elim c.else-i-eq0.branch [
-      else-i-eq0-via-then-i-eq0+else-k-eq0 w ↦ rw (w.if-i-eq0.true, ← w.k.ensures, w.if-k-eq0.false-raw)
-    | else-i-eq0-via-else-i-eq0 w ↦ simp (ne_eqb _ _ w.if-i-eq0.false)
+      | else-i-eq0-via-then-i-eq0+else-k-eq0 w ↦ rw (w.if-i-eq0.true, ← w.k.ensures, w.if-k-eq0.false-raw)
+      | else-i-eq0-via-else-i-eq0 w ↦ simp (ne_eqb _ _ w.if-i-eq0.false)
     ]))

@@ -9,29 +9,29 @@ use Rattle.control.proofs.set_mode.Goals as goal
 pub put_control-requires : goal.put_control-requires
 put_control-requires c =
     record {
-        whole = c.requires.0;
-        control = inr (inr (inl refl));
+      whole = c.requires.0;
+      control = inr (inr (inl refl));
     }
 
 pub put_control-requires-in-4 : goal.put_control-requires-in-4
 put_control-requires-in-4 c =
     record {
-        whole = c.requires.0;
-        control = inr (inr (inl refl));
+      whole = c.requires.0;
+      control = inr (inr (inl refl));
     }
 
 pub put_control-requires-in-5 : goal.put_control-requires-in-5
 put_control-requires-in-5 c =
     record {
-        whole = c.requires.0;
-        control = inr (inr (inr refl));
+      whole = c.requires.0;
+      control = inr (inr (inr refl));
     }
 
 pub put_control-requires-in-6 : goal.put_control-requires-in-6
 put_control-requires-in-6 c =
     record {
-        whole = c.requires.0;
-        control = inr (inr (inr refl));
+      whole = c.requires.0;
+      control = inr (inr (inr refl));
     }
 
 pub returns-in-3 : goal.returns-in-3

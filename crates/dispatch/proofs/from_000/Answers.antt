@@ -31,78 +31,78 @@ jump_b-requires c =
 pub jump-requires : goal.jump-requires
 jump-requires c =
     record {
-        whole = alone c.requires.ready c.requires.x_bound.0 c.requires.x_bound.1 c.in-6.is (λ c. refl);
-        reaches = c.requires.ready.reaches;
+      whole = alone c.requires.ready c.requires.x_bound.0 c.requires.x_bound.1 c.in-6.is (λ c. refl);
+      reaches = c.requires.ready.reaches;
     }
 
 pub return_jump-requires : goal.return_jump-requires
 return_jump-requires c =
     record {
-        whole = alone c.requires.ready c.requires.x_bound.0 c.requires.x_bound.1 c.in-7.is (λ c. refl);
-        reaches = c.requires.ready.reaches;
+      whole = alone c.requires.ready c.requires.x_bound.0 c.requires.x_bound.1 c.in-7.is (λ c. refl);
+      reaches = c.requires.ready.reaches;
     }
 
 pub branch-r-requires : goal.branch-r-requires
 branch-r-requires c =
     record {
-        whole = alone c.requires.ready c.requires.x_bound.0 c.requires.x_bound.1 c.in-8.is (λ c. refl);
-        reaches = c.requires.ready.reaches;
+      whole = alone c.requires.ready c.requires.x_bound.0 c.requires.x_bound.1 c.in-8.is (λ c. refl);
+      reaches = c.requires.ready.reaches;
     }
 
 pub branch-r-requires-in-9 : goal.branch-r-requires-in-9
 branch-r-requires-in-9 c =
     record {
-        whole = alone c.requires.ready c.requires.x_bound.0 c.requires.x_bound.1 c.in-9.is (λ c. refl);
-        reaches = c.requires.ready.reaches;
+      whole = alone c.requires.ready c.requires.x_bound.0 c.requires.x_bound.1 c.in-9.is (λ c. refl);
+      reaches = c.requires.ready.reaches;
     }
 
 pub branch-r-requires-in-10 : goal.branch-r-requires-in-10
 branch-r-requires-in-10 c =
     record {
-        whole = alone c.requires.ready c.requires.x_bound.0 c.requires.x_bound.1 c.in-10.is (λ c. refl);
-        reaches = c.requires.ready.reaches;
+      whole = alone c.requires.ready c.requires.x_bound.0 c.requires.x_bound.1 c.in-10.is (λ c. refl);
+      reaches = c.requires.ready.reaches;
     }
 
 pub branch-r-requires-in-11 : goal.branch-r-requires-in-11
 branch-r-requires-in-11 c =
     record {
-        whole = alone c.requires.ready c.requires.x_bound.0 c.requires.x_bound.1 c.in-11.is (λ c. refl);
-        reaches = c.requires.ready.reaches;
+      whole = alone c.requires.ready c.requires.x_bound.0 c.requires.x_bound.1 c.in-11.is (λ c. refl);
+      reaches = c.requires.ready.reaches;
     }
 
 pub branch-r-requires-in-12 : goal.branch-r-requires-in-12
 branch-r-requires-in-12 c =
     record {
-        whole = alone c.requires.ready c.requires.x_bound.0 c.requires.x_bound.1 c.in-12.is (λ c. refl);
-        reaches = c.requires.ready.reaches;
+      whole = alone c.requires.ready c.requires.x_bound.0 c.requires.x_bound.1 c.in-12.is (λ c. refl);
+      reaches = c.requires.ready.reaches;
     }
 
 pub branch-r-requires-in-13 : goal.branch-r-requires-in-13
 branch-r-requires-in-13 c =
     record {
-        whole = alone c.requires.ready c.requires.x_bound.0 c.requires.x_bound.1 c.in-13.is (λ c. refl);
-        reaches = c.requires.ready.reaches;
+      whole = alone c.requires.ready c.requires.x_bound.0 c.requires.x_bound.1 c.in-13.is (λ c. refl);
+      reaches = c.requires.ready.reaches;
     }
 
 pub branch-r-requires-in-14 : goal.branch-r-requires-in-14
 branch-r-requires-in-14 c =
     record {
-        whole = alone c.requires.ready c.requires.x_bound.0 c.requires.x_bound.1 c.in-14.is (λ c. refl);
-        reaches = c.requires.ready.reaches;
+      whole = alone c.requires.ready c.requires.x_bound.0 c.requires.x_bound.1 c.in-14.is (λ c. refl);
+      reaches = c.requires.ready.reaches;
     }
 
 pub branch-r-requires-in-15 : goal.branch-r-requires-in-15
 branch-r-requires-in-15 c =
     record {
-        whole = alone c.requires.ready c.requires.x_bound.0 c.requires.x_bound.1 c.in-15.is (λ c. refl);
-        reaches = c.requires.ready.reaches;
+      whole = alone c.requires.ready c.requires.x_bound.0 c.requires.x_bound.1 c.in-15.is (λ c. refl);
+      reaches = c.requires.ready.reaches;
     }
 
 pub from_020-requires : goal.from_020-requires
 from_020-requires c =
     record {
-        ready = c.requires.ready;
-        x_bound = (c.requires.x_bound.0, c.requires.x_bound.1, none_in _ _ 0 16 c.in_default.in_default-own.rest (omega arith));
+      ready = c.requires.ready;
+      x_bound = (c.requires.x_bound.0, c.requires.x_bound.1, none_in _ _ 0 16 c.in_default.in_default-own.rest (omega arith));
     }
 
 pub returns-in-0 : goal.returns-in-0

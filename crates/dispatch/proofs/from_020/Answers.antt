@@ -8,15 +8,15 @@ use Rattle.dispatch.proofs.from_020.Goals as goal
 pub enter-requires : goal.enter-requires
 enter-requires c =
     record {
-        whole = alone c.requires.ready c.requires.x_bound.0 c.requires.x_bound.1 c.in-16.is (λ c. refl);
-        reaches = c.requires.ready.reaches;
+      whole = alone c.requires.ready c.requires.x_bound.0 c.requires.x_bound.1 c.in-16.is (λ c. refl);
+      reaches = c.requires.ready.reaches;
     }
 
 pub enter-requires-in-17 : goal.enter-requires-in-17
 enter-requires-in-17 c =
     record {
-        whole = alone c.requires.ready c.requires.x_bound.0 c.requires.x_bound.1 c.in-17.is (λ c. refl);
-        reaches = c.requires.ready.reaches;
+      whole = alone c.requires.ready c.requires.x_bound.0 c.requires.x_bound.1 c.in-17.is (λ c. refl);
+      reaches = c.requires.ready.reaches;
     }
 
 pub short-requires : goal.short-requires
@@ -58,36 +58,36 @@ product-requires c =
 pub read_b-requires : goal.read_b-requires
 read_b-requires c =
     record {
-        whole = alone c.requires.ready c.requires.x_bound.0 c.requires.x_bound.1 c.in-28.is (λ c. refl);
-        window = reached _ _ _ c.requires.ready.reaches;
+      whole = alone c.requires.ready c.requires.x_bound.0 c.requires.x_bound.1 c.in-28.is (λ c. refl);
+      window = reached _ _ _ c.requires.ready.reaches;
     }
 
 pub store_b-requires : goal.store_b-requires
 store_b-requires c =
     record {
-        whole = alone c.requires.ready c.requires.x_bound.0 c.requires.x_bound.1 c.in-29.is (λ c. refl);
-        window = reached _ _ _ c.requires.ready.reaches;
+      whole = alone c.requires.ready c.requires.x_bound.0 c.requires.x_bound.1 c.in-29.is (λ c. refl);
+      window = reached _ _ _ c.requires.ready.reaches;
     }
 
 pub read_t-requires : goal.read_t-requires
 read_t-requires c =
     record {
-        whole = alone c.requires.ready c.requires.x_bound.0 c.requires.x_bound.1 c.in-30.is (λ c. refl);
-        window = reached _ _ _ c.requires.ready.reaches;
+      whole = alone c.requires.ready c.requires.x_bound.0 c.requires.x_bound.1 c.in-30.is (λ c. refl);
+      window = reached _ _ _ c.requires.ready.reaches;
     }
 
 pub store_t-requires : goal.store_t-requires
 store_t-requires c =
     record {
-        whole = alone c.requires.ready c.requires.x_bound.0 c.requires.x_bound.1 c.in-31.is (λ c. refl);
-        window = reached _ _ _ c.requires.ready.reaches;
+      whole = alone c.requires.ready c.requires.x_bound.0 c.requires.x_bound.1 c.in-31.is (λ c. refl);
+      window = reached _ _ _ c.requires.ready.reaches;
     }
 
 pub from_040-requires : goal.from_040-requires
 from_040-requires c =
     record {
-        ready = c.requires.ready;
-        x_bound = (c.requires.x_bound.0, c.requires.x_bound.1, past-020 _ _ c.requires.x_bound.0 c.requires.x_bound.1 c.requires.x_bound.2 c.in_default.in_default-own.rest);
+      ready = c.requires.ready;
+      x_bound = (c.requires.x_bound.0, c.requires.x_bound.1, past-020 _ _ c.requires.x_bound.0 c.requires.x_bound.1 c.requires.x_bound.2 c.in_default.in_default-own.rest);
     }
 
 pub returns-in-16 : goal.returns-in-16

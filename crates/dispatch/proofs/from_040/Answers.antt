@@ -7,15 +7,15 @@ use Rattle.dispatch.proofs.from_040.Goals as goal
 pub enter-requires : goal.enter-requires
 enter-requires c =
     record {
-        whole = alone c.requires.ready c.requires.x_bound.0 c.requires.x_bound.1 c.in-32.is (λ c. refl);
-        reaches = c.requires.ready.reaches;
+      whole = alone c.requires.ready c.requires.x_bound.0 c.requires.x_bound.1 c.in-32.is (λ c. refl);
+      reaches = c.requires.ready.reaches;
     }
 
 pub enter-requires-in-33 : goal.enter-requires-in-33
 enter-requires-in-33 c =
     record {
-        whole = alone c.requires.ready c.requires.x_bound.0 c.requires.x_bound.1 c.in-33.is (λ c. refl);
-        reaches = c.requires.ready.reaches;
+      whole = alone c.requires.ready c.requires.x_bound.0 c.requires.x_bound.1 c.in-33.is (λ c. refl);
+      reaches = c.requires.ready.reaches;
     }
 
 pub ones_right-requires : goal.ones_right-requires
@@ -77,8 +77,8 @@ right_pair-requires c =
 pub from_060-requires : goal.from_060-requires
 from_060-requires c =
     record {
-        ready = c.requires.ready;
-        x_bound = (c.requires.x_bound.0, c.requires.x_bound.1, none_in _ _ 32 16 c.in_default.in_default-own.rest (omega arith));
+      ready = c.requires.ready;
+      x_bound = (c.requires.x_bound.0, c.requires.x_bound.1, none_in _ _ 32 16 c.in_default.in_default-own.rest (omega arith));
     }
 
 pub returns-in-32 : goal.returns-in-32

@@ -19,8 +19,8 @@ from_a-requires c =
 pub read_control-requires : goal.read_control-requires
 read_control-requires c =
     record {
-        whole = alone c.requires.ready c.requires.x_bound.0 c.requires.x_bound.1 c.in-59.is (λ c. refl);
-        frame_ok = (c.requires.ready.frame, c.requires.ready.control, c.requires.ready.processor);
+      whole = alone c.requires.ready c.requires.x_bound.0 c.requires.x_bound.1 c.in-59.is (λ c. refl);
+      frame_ok = (c.requires.ready.frame, c.requires.ready.control, c.requires.ready.processor);
     }
 
 pub from_t-requires : goal.from_t-requires
@@ -42,8 +42,8 @@ to_v-requires c =
 pub from_100-requires : goal.from_100-requires
 from_100-requires c =
     record {
-        ready = c.requires.ready;
-        x_bound = (c.requires.x_bound.0, c.requires.x_bound.1, past-060 _ _ c.requires.x_bound.0 c.requires.x_bound.1 c.requires.x_bound.2 c.in_default.in_default-own.rest);
+      ready = c.requires.ready;
+      x_bound = (c.requires.x_bound.0, c.requires.x_bound.1, past-060 _ _ c.requires.x_bound.0 c.requires.x_bound.1 c.requires.x_bound.2 c.in_default.in_default-own.rest);
     }
 
 pub returns-in-48 : goal.returns-in-48

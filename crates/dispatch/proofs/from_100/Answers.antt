@@ -7,29 +7,29 @@ use Rattle.dispatch.proofs.from_100.Goals as goal
 pub load-requires : goal.load-requires
 load-requires c =
     record {
-        whole = (c.requires.ready.long, group _ _ _ c.requires.x_bound.0 c.requires.x_bound.1 c.in-64.is (λ c. refl));
-        reaches = c.requires.ready.reaches;
+      whole = (c.requires.ready.long, group _ _ _ c.requires.x_bound.0 c.requires.x_bound.1 c.in-64.is (λ c. refl));
+      reaches = c.requires.ready.reaches;
     }
 
 pub store-requires : goal.store-requires
 store-requires c =
     record {
-        whole = (c.requires.ready.long, group _ _ _ c.requires.x_bound.0 c.requires.x_bound.1 c.in-72.is (λ c. refl));
-        reaches = c.requires.ready.reaches;
+      whole = (c.requires.ready.long, group _ _ _ c.requires.x_bound.0 c.requires.x_bound.1 c.in-72.is (λ c. refl));
+      reaches = c.requires.ready.reaches;
     }
 
 pub load-requires-in-80 : goal.load-requires-in-80
 load-requires-in-80 c =
     record {
-        whole = (c.requires.ready.long, group _ _ _ c.requires.x_bound.0 c.requires.x_bound.1 c.in-80.is (λ c. refl));
-        reaches = c.requires.ready.reaches;
+      whole = (c.requires.ready.long, group _ _ _ c.requires.x_bound.0 c.requires.x_bound.1 c.in-80.is (λ c. refl));
+      reaches = c.requires.ready.reaches;
     }
 
 pub store-requires-in-88 : goal.store-requires-in-88
 store-requires-in-88 c =
     record {
-        whole = (c.requires.ready.long, group _ _ _ c.requires.x_bound.0 c.requires.x_bound.1 c.in-88.is (λ c. refl));
-        reaches = c.requires.ready.reaches;
+      whole = (c.requires.ready.long, group _ _ _ c.requires.x_bound.0 c.requires.x_bound.1 c.in-88.is (λ c. refl));
+      reaches = c.requires.ready.reaches;
     }
 
 pub vectors-requires : goal.vectors-requires
@@ -59,15 +59,15 @@ others-requires-in-124 c =
 pub read_v-requires : goal.read_v-requires
 read_v-requires c =
     record {
-        ready = c.requires.ready;
-        coded = own _ _ _ c.requires.x_bound.0 c.requires.x_bound.1 c.in-126.is (λ c. refl);
+      ready = c.requires.ready;
+      coded = own _ _ _ c.requires.x_bound.0 c.requires.x_bound.1 c.in-126.is (λ c. refl);
     }
 
 pub store_v-requires : goal.store_v-requires
 store_v-requires c =
     record {
-        ready = c.requires.ready;
-        coded = own _ _ _ c.requires.x_bound.0 c.requires.x_bound.1 c.in-127.is (λ c. refl);
+      ready = c.requires.ready;
+      coded = own _ _ _ c.requires.x_bound.0 c.requires.x_bound.1 c.in-127.is (λ c. refl);
     }
 
 pub returns-in-64 : goal.returns-in-64

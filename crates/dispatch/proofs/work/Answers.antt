@@ -21,8 +21,8 @@ arm-requires c =
 pub from_000-requires : goal.from_000-requires
 from_000-requires c =
     record {
-        ready = c.requires.ready;
-        x_bound = (parcel-narrow _ _ _ _ (sym c.fetch.ensures ∙ c.in-Parcel.is), c.arm.ensures);
+      ready = c.requires.ready;
+      x_bound = (parcel-narrow _ _ _ _ (sym c.fetch.ensures ∙ c.in-Parcel.is), c.arm.ensures);
     }
 
 pub returns : goal.returns

@@ -5,8 +5,8 @@ use Rattle.exchange.proofs.swap.Goals as goal
 pub saved_words-old-requires : goal.saved_words-old-requires
 saved_words-old-requires c =
     record {
-        whole = (c.requires.whole.0, c.requires.whole.2, c.requires.whole.3);
-        narrow = narrow _ c.requires.frame_ok.0 c.requires.frame_ok.1;
+      whole = (c.requires.whole.0, c.requires.whole.2, c.requires.whole.3);
+      narrow = narrow _ c.requires.frame_ok.0 c.requires.frame_ok.1;
     }
 
 pub returns : goal.returns

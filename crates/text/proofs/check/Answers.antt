@@ -10,16 +10,16 @@ use Rattle.text.proofs.check.Goals as goal
 pub returns-then-text-gt24576 : goal.returns-then-text-gt24576
 unfolding check_of
 returns-then-text-gt24576 c = record {
-        value = rw (lt-ltb _ _ c.if-text-gt24576.true);
-        checked_fits = tt;
-    }
+  value = rw (lt-ltb _ _ c.if-text-gt24576.true);
+  checked_fits = tt;
+}
 
 pub returns-in_default : goal.returns-in_default
 unfolding check_of after_steps
 returns-in_default c = record {
-        value = rw (le-ltb _ _ c.if-text-gt24576.false, ← c.head_line.ensures.value, c.in_default.is);
-        checked_fits = tt;
-    }
+  value = rw (le-ltb _ _ c.if-text-gt24576.false, ← c.head_line.ensures.value, c.in_default.is);
+  checked_fits = tt;
+}
 
 pub head_line-requires-2 : goal.head_line-requires-2
 head_line-requires-2 c =
@@ -28,15 +28,15 @@ head_line-requires-2 c =
 pub returns-in_default-head_line : goal.returns-in_default-head_line
 unfolding check_of after_steps after_words
 returns-in_default-head_line c = record {
-        value = rw (
+  value = rw (
     le-ltb _ _ c.if-text-gt24576.false,
     ← c.head_line.ensures.value,
     c.in-Says.is,
     ← c.head_line-2.ensures.value,
     c.in_default-head_line.is,
   );
-        checked_fits = tt;
-    }
+  checked_fits = tt;
+}
 
 pub bad_line-bad-requires : goal.bad_line-bad-requires
 bad_line-bad-requires c =
@@ -52,7 +52,7 @@ bad_line-bad-requires c =
 pub returns-then-bad-ne0 : goal.returns-then-bad-ne0
 unfolding check_of after_steps after_words
 returns-then-bad-ne0 c = record {
-        value = rw (
+  value = rw (
     le-ltb _ _ c.if-text-gt24576.false,
     ← c.head_line.ensures.value,
     c.in-Says.is,
@@ -61,13 +61,13 @@ returns-then-bad-ne0 c = record {
     ← c.bad_line-bad.ensures,
     ne_eqb _ _ c.if-bad-ne0.true,
   );
-        checked_fits = tt;
-    }
+  checked_fits = tt;
+}
 
 pub returns : goal.returns
 unfolding check_of after_steps after_words
 returns c = record {
-        value = rw (
+  value = rw (
     le-ltb _ _ c.if-text-gt24576.false,
     ← c.head_line.ensures.value,
     c.in-Says.is,
@@ -76,7 +76,7 @@ returns c = record {
     ← c.bad_line-bad.ensures,
     eq-eqb _ _ c.if-bad-ne0.false,
   );
-        checked_fits = omega (
+  checked_fits = omega (
     arith,
     subst (HeadFits 1000000 14)
         c.in-Says.is
@@ -85,4 +85,4 @@ returns c = record {
         (HeadFits 1024 (c.in-Says.second + 14))
         c.in-Says-head_line.is c.head_line-2.ensures.head_fits,
   );
-    }
+}

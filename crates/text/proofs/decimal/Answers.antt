@@ -21,11 +21,11 @@ returns-then-not-is_decimal c =
       digits-most 10 _ _ 7 (lit< tt) c.loop-d.invariant.1
           c.loop-d.invariant.0,
     ) in record {
-        value = c.ends.ensures.value
+      value = c.ends.ensures.value
           ∙ sym (c.loop-d.invariant.2
           ∙ decimal-stop _ _ 7 _ c.loop-d-test.true _ c.byte_at-b.ensures _
           (sym c.is_decimal.ensures ∙ not-true _ c.if-not-is_decimal.true-raw));
-        head_fits = fits_more _ _ _ _ c.ends.result c.ends.ensures.head_fits small end;
+      head_fits = fits_more _ _ _ _ c.ends.result c.ends.ensures.head_fits small end;
     }
 
 pub overflow_mul-v : goal.overflow_mul-v
@@ -58,7 +58,7 @@ returns c =
     let end : c.args.at + c.loop-d.d + 1 ≤ c.args.at +
     8 = omega arith in let small : c.loop-d.v ≤ 10000000 = omega
     (arith, digits-most 10 _ _ 7 (lit< tt) c.loop-d.invariant.1 c.loop-d.invariant.0) in record {
-        value = c.ends-2.ensures.value ∙ sym (c.loop-d.invariant.2 ∙ decimal-done _ _ 7 _ c.loop-d-test.false _);
-        head_fits = fits_more _ _ _ _
+      value = c.ends-2.ensures.value ∙ sym (c.loop-d.invariant.2 ∙ decimal-done _ _ 7 _ c.loop-d-test.false _);
+      head_fits = fits_more _ _ _ _
           c.ends-2.result c.ends-2.ensures.head_fits small end;
     }

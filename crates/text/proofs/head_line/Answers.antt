@@ -11,27 +11,27 @@ use Rattle.text.proofs.head_line.Goals as goal
 pub returns-then-not-starts : goal.returns-then-not-starts
 unfolding head_at
 returns-then-not-starts c = record {
-        value = rw (← c.starts.ensures, not-true c.starts.result c.if-not-starts.true-raw);
-        head_fits = tt;
-    }
+  value = rw (← c.starts.ensures, not-true c.starts.result c.if-not-starts.true-raw);
+  head_fits = tt;
+}
 
 pub returns-in_default : goal.returns-in_default
 unfolding head_at up_to
 returns-in_default c = record {
-        value = rw (
+  value = rw (
     ← c.starts.ensures,
     not-false c.starts.result
         c.if-not-starts.false-raw,
     ← c.number_at.ensures.value,
     c.in_default.is,
   );
-        head_fits = tt;
-    }
+  head_fits = tt;
+}
 
 pub returns-then-most-number : goal.returns-then-most-number
 unfolding head_at up_to
 returns-then-most-number c = record {
-        value = rw (
+  value = rw (
     ← c.starts.ensures,
     not-false
         c.starts.result c.if-not-starts.false-raw,
@@ -39,8 +39,8 @@ returns-then-most-number c = record {
     c.in-Says.is,
     lt-leb _ _ c.if-most-number.true,
   );
-        head_fits = tt;
-    }
+  head_fits = tt;
+}
 
 pub returns : goal.returns
 unfolding head_at up_to
@@ -48,7 +48,7 @@ returns c =
     let fits = subst (HeadFits 10000000 (c.args.at + length
     c.args.name.now +
     8)) c.in-Says.is c.number_at.ensures.head_fits in record {
-        value = rw (
+      value = rw (
         ← c.starts.ensures,
         not-false c.starts.result
             c.if-not-starts.false-raw,
@@ -56,5 +56,5 @@ returns c =
         c.in-Says.is,
         le-leb _ _ c.if-most-number.false,
       );
-        head_fits = (omega arith, omega (arith, fits.1));
+      head_fits = (omega arith, omega (arith, fits.1));
     }

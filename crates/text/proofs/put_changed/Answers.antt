@@ -8,13 +8,13 @@ use Rattle.text.proofs.put_changed.Goals as goal
 pub returns : goal.returns
 unfolding changed_lines
 returns c = record {
-        wrote = rw (
+  wrote = rw (
     ← c.compared-n.ensures.0,
     ← c.count_changes-count.ensures,
   ) (then
       c.put_line-words.ensures.0 c.put_changes.ensures);
-        upper_bound = λ short. omega (
+  upper_bound = λ short. omega (
     arith,
     words-most c.args.before.now c.args.after.now (λ i. (c.shared_slice_known-2-1.given i).fits) c.compared-n.result 0 (omega arith),
   );
-    }
+}

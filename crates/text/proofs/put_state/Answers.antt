@@ -6,8 +6,7 @@ use Rattle.text.proofs.put_state.Goals as goal
 
 pub returns : goal.returns
 unfolding state_lines
-returns c =
-    (
-      then (then (then c.put_control-second.ensures.0 c.put_fields-third.ensures.0) c.put_program-fourth.ensures.0) c.put_registers.ensures.0,
-      omega (arith, c.put_control-second.ensures.1, c.put_fields-third.ensures.1, c.put_program-fourth.ensures.1, c.put_registers.ensures.1),
-    )
+returns c = (
+  then (then (then c.put_control-second.ensures.0 c.put_fields-third.ensures.0) c.put_program-fourth.ensures.0) c.put_registers.ensures.0,
+  omega (arith, c.put_control-second.ensures.1, c.put_fields-third.ensures.1, c.put_program-fourth.ensures.1, c.put_registers.ensures.1),
+)

@@ -13,10 +13,10 @@ unfolding sheet_from sheet_of loaded_of memory_of
 returns-in-Passed c =
     let e = rw c.in-Passed.is at c.check.ensures.value in
     record {
-        value = rw (← e);
-        mem_after = rw (← e) c.store_words.ensures;
-        numbers = rw (← e);
-        sheet_fits = ((subst CheckedFits c.in-Passed.is c.check.ensures.checked_fits).2, search rules);
+      value = rw (← e);
+      mem_after = rw (← e) c.store_words.ensures;
+      numbers = rw (← e);
+      sheet_fits = ((subst CheckedFits c.in-Passed.is c.check.ensures.checked_fits).2, search rules);
     }
 
 pub returns-in-Failed : goal.returns-in-Failed

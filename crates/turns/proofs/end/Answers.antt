@@ -7,16 +7,16 @@ pub strayed-requires : goal.strayed-requires
 strayed-requires c =
     let k = rw c.in-StrayedOne.is at c.requires.sound in
     record {
-        fitting = c.requires.fitting;
-        p_bound = (rw c.on.ensures (omega arith), k.0);
+      fitting = c.requires.fitting;
+      p_bound = (rw c.on.ensures (omega arith), k.0);
     }
 
 pub strayed-requires-in-StrayedTwo : goal.strayed-requires-in-StrayedTwo
 strayed-requires-in-StrayedTwo c =
     let k = rw c.in-StrayedTwo.is at c.requires.sound in
     record {
-        fitting = c.requires.fitting;
-        p_bound = (rw c.on-in-StrayedTwo.ensures (omega arith), k.0);
+      fitting = c.requires.fitting;
+      p_bound = (rw c.on-in-StrayedTwo.ensures (omega arith), k.0);
     }
 
 pub overflow_add-result : goal.overflow_add-result

@@ -9,29 +9,29 @@ use Rattle.turns.proofs.finish.Goals as goal
 pub leave-requires : goal.leave-requires
 leave-requires c =
     record {
-        fitting = c.requires.fitting;
-        p_bound = (rw c.on-in-NormalExit.ensures (omega arith), rw c.in_user_mode.ensures (flag_small (frame_of c.args.r.now) 1 (omega arith)));
+      fitting = c.requires.fitting;
+      p_bound = (rw c.on-in-NormalExit.ensures (omega arith), rw c.in_user_mode.ensures (flag_small (frame_of c.args.r.now) 1 (omega arith)));
     }
 
 pub leave-requires-in-ErrorExit : goal.leave-requires-in-ErrorExit
 leave-requires-in-ErrorExit c =
     record {
-        fitting = c.requires.fitting;
-        p_bound = (rw c.on-in-ErrorExit.ensures (omega arith), rw c.in_user_mode-in-ErrorExit.ensures (flag_small (frame_of c.args.r.now) 2 (omega arith)));
+      fitting = c.requires.fitting;
+      p_bound = (rw c.on-in-ErrorExit.ensures (omega arith), rw c.in_user_mode-in-ErrorExit.ensures (flag_small (frame_of c.args.r.now) 2 (omega arith)));
     }
 
 pub ranged-requires : goal.ranged-requires
 ranged-requires c =
     record {
-        fitting = c.requires.fitting;
-        p_bound = rw c.on-in-StrayedOne.ensures (omega arith);
+      fitting = c.requires.fitting;
+      p_bound = rw c.on-in-StrayedOne.ensures (omega arith);
     }
 
 pub ranged-requires-in-StrayedTwo : goal.ranged-requires-in-StrayedTwo
 ranged-requires-in-StrayedTwo c =
     record {
-        fitting = c.requires.fitting;
-        p_bound = rw c.on-in-StrayedTwo.ensures (omega arith);
+      fitting = c.requires.fitting;
+      p_bound = rw c.on-in-StrayedTwo.ensures (omega arith);
     }
 
 pub returns-in-PastOne : goal.returns-in-PastOne

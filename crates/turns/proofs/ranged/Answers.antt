@@ -8,8 +8,8 @@ use Rattle.turns.proofs.ranged.Goals.{else-r-eq0-via-then-r-eq0+else-r-eq1, else
 pub leave-requires : goal.leave-requires
 leave-requires c =
     record {
-        fitting = c.requires.fitting;
-        p_bound = (c.requires.p_bound, omega arith);
+      fitting = c.requires.fitting;
+      p_bound = (c.requires.p_bound, omega arith);
     }
 
 pub returns-then-r-eq1 : goal.returns-then-r-eq1
@@ -20,6 +20,6 @@ pub returns : goal.returns
 returns c =
     λ s. rw c.set_p.ensures
     (elim c.else-r-eq0.branch [
-      else-r-eq0-via-then-r-eq0+else-r-eq1 w ↦ sym (ranged-passes _ _ _ _ w.if-r-eq0.true w.if-r-eq1.false-raw)
-    | else-r-eq0-via-else-r-eq0 w ↦ sym (ranged-monitor _ _ _ _ w.if-r-eq0.false)
+      | else-r-eq0-via-then-r-eq0+else-r-eq1 w ↦ sym (ranged-passes _ _ _ _ w.if-r-eq0.true w.if-r-eq1.false-raw)
+      | else-r-eq0-via-else-r-eq0 w ↦ sym (ranged-monitor _ _ _ _ w.if-r-eq0.false)
     ])

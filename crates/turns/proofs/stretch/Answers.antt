@@ -11,8 +11,8 @@ returns-then-steps-budget c =
 pub finish-requires : goal.finish-requires
 finish-requires c =
     record {
-        fitting = still-fitting _ _ _ _ _ _ _ _ _ c.take_burst-burst.ensures c.requires.bounds.1 c.requires.fitting (search rules);
-        p_bound = (c.take_burst-burst.ensures.narrow, c.take_burst-burst.ensures.work);
+      fitting = still-fitting _ _ _ _ _ _ _ _ _ c.take_burst-burst.ensures c.requires.bounds.1 c.requires.fitting (search rules);
+      p_bound = (c.take_burst-burst.ensures.narrow, c.take_burst-burst.ensures.work);
     }
 
 pub returns-in-One : goal.returns-in-One

@@ -14,8 +14,8 @@ use Rattle.turns.proofs.take.Goals as goal
 pub end-first-requires : goal.end-first-requires
 end-first-requires c =
     record {
-        fitting = c.stretch-start.ensures.fitting;
-        sound = c.stretch-start.ensures.sound;
+      fitting = c.stretch-start.ensures.fitting;
+      sound = c.stretch-start.ensures.sound;
     }
 
 pub loop-steps-init : goal.loop-steps-init
@@ -26,15 +26,15 @@ loop-steps-init c =
 pub stretch-came-requires : goal.stretch-came-requires
 stretch-came-requires c =
     record {
-        fitting = c.loop-steps.invariant.fitting;
-        bounds = (c.loop-steps.invariant.p, omega (arith, c.requires.bounds.1));
+      fitting = c.loop-steps.invariant.fitting;
+      bounds = (c.loop-steps.invariant.p, omega (arith, c.requires.bounds.1));
     }
 
 pub end-next-requires : goal.end-next-requires
 end-next-requires c =
     record {
-        fitting = c.stretch-came.ensures.fitting;
-        sound = c.stretch-came.ensures.sound;
+      fitting = c.stretch-came.ensures.fitting;
+      sound = c.stretch-came.ensures.sound;
     }
 
 pub overflow_add-steps : goal.overflow_add-steps

@@ -12,8 +12,8 @@ loop-left-init c = begins _ _ _ _ _ c.requires.ready c.requires.from_bound
 pub work-w-requires : goal.work-w-requires
 work-w-requires c =
     record {
-        ready = c.loop-left.invariant.ready;
-        p_bound = c.loop-left.invariant.narrow;
+      ready = c.loop-left.invariant.ready;
+      p_bound = c.loop-left.invariant.narrow;
     }
 
 pub returns-in_default : goal.returns-in_default

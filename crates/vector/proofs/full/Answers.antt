@@ -6,6 +6,6 @@ use Rattle.vector.proofs.full.Goals as goal
 pub both-requires-in_default : goal.both-requires-in_default
 both-requires-in_default c =
     record {
-        whole = search rules;
-        coded = last_of 0o157 nine _ c.requires.2 c.in_default.in_default-own.rest;
+      whole = search rules;
+      coded = last_of 0o157 nine _ c.requires.2 c.in_default.in_default-own.rest;
     }

@@ -18,18 +18,17 @@ pub loop-e-init : goal.loop-e-init
 loop-e-init c = (begins _ _ _ _ (search rules), search rules)
 
 pub loop-e-preserved : goal.loop-e-preserved
-loop-e-preserved c =
-    (
-      goes c.loop-e.invariant.0 _ _ (omega arith)
-          (c.left_pair.ensures
-          ∙ rw (
-            ne_eqb (c.loop-e.e + 1) (registers_of c.args.r.now).vl (omega arith),
-            reads c.loop-e.invariant.0 (j_of c.args.x) c.loop-e.e (c.v_j-from.result + c.loop-e.e) (omega arith),
-            reads c.loop-e.invariant.0 (j_of c.args.x) (c.loop-e.e + 1) (c.v_j-from.result + c.loop-e.e + 1) (omega arith),
-            c.a_k-count.ensures,
-          )),
-      omega arith,
-    )
+loop-e-preserved c = (
+  goes c.loop-e.invariant.0 _ _ (omega arith)
+      (c.left_pair.ensures
+      ∙ rw (
+        ne_eqb (c.loop-e.e + 1) (registers_of c.args.r.now).vl (omega arith),
+        reads c.loop-e.invariant.0 (j_of c.args.x) c.loop-e.e (c.v_j-from.result + c.loop-e.e) (omega arith),
+        reads c.loop-e.invariant.0 (j_of c.args.x) (c.loop-e.e + 1) (c.v_j-from.result + c.loop-e.e + 1) (omega arith),
+        c.a_k-count.ensures,
+      )),
+  omega arith,
+)
 
 pub shape_of-r : goal.shape_of-r
 shape_of-r c = simp length-set (omega arith)

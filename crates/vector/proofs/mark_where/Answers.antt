@@ -29,9 +29,9 @@ loop-e-preserved c =
 
 pub set_control-requires : goal.set_control-requires
 set_control-requires c = record {
-        whole = search rules;
-        control = inr (inl refl);
-    }
+  whole = search rules;
+  control = inr (inl refl);
+}
 
 pub returns : goal.returns
 returns c =

@@ -14,20 +14,19 @@ loop-e-init c = (begins _ _ _ _ (search rules), omega arith, omega arith, omega 
 pub two-requires-in-loop-e : goal.two-requires-in-loop-e
 two-requires-in-loop-e c =
     record {
-        whole = (search rules, c.requires.1);
-        left_bound = omega arith;
+      whole = (search rules, c.requires.1);
+      left_bound = omega arith;
     }
 
 pub loop-e-preserved : goal.loop-e-preserved
-loop-e-preserved c =
-    (
-      goes-four c.args.scalar c.args.x c.vl-n.result c.s_j-s.result _ c.s_j-s.ensures (omega arith) c.loop-e.e c.loop-e.bits
-          (c.v_j-left.result + c.loop-e.e) (c.v_k-right.result + c.loop-e.e) (c.v_i-to.result + c.loop-e.e) _ _ _ c.loop-e.invariant.0 (omega arith) c.loop-e.invariant.1 (omega arith)
-          c.two.ensures c.two-in-loop-e.ensures,
-      rw c.loop-e.invariant.1 (shift-more (registers_of c.args.r.now).vm c.loop-e.e 4 (omega arith)),
-      omega arith,
-      omega arith,
-    )
+loop-e-preserved c = (
+  goes-four c.args.scalar c.args.x c.vl-n.result c.s_j-s.result _ c.s_j-s.ensures (omega arith) c.loop-e.e c.loop-e.bits
+      (c.v_j-left.result + c.loop-e.e) (c.v_k-right.result + c.loop-e.e) (c.v_i-to.result + c.loop-e.e) _ _ _ c.loop-e.invariant.0 (omega arith) c.loop-e.invariant.1 (omega arith)
+      c.two.ensures c.two-in-loop-e.ensures,
+  rw c.loop-e.invariant.1 (shift-more (registers_of c.args.r.now).vm c.loop-e.e 4 (omega arith)),
+  omega arith,
+  omega arith,
+)
 
 pub loop-e-2-init : goal.loop-e-2-init
 loop-e-2-init c = record { within = c.loop-e.invariant.0.within; long = c.loop-e.invariant.0.long; on = λ w a b d. d }

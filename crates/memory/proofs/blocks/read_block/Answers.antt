@@ -6,14 +6,14 @@ use Rattle.memory.proofs.blocks.read_block.Goals as goal
 pub read-requires : goal.read-requires
 read-requires c =
     record {
-        whole = (
+      whole = (
         c.requires.whole.0,
         block-low c.args.b _ c.place.ensures,
         omega (arith, c.jk.ensures),
         omega
             (arith, c.block.ensures),
       );
-        held = held _ _ _ _ c.requires.window;
+      held = held _ _ _ _ c.requires.window;
     }
 
 pub returns : goal.returns

@@ -6,8 +6,8 @@ use Rattle.memory.proofs.blocks.read_v.Goals as goal
 pub read-requires : goal.read-requires
 read-requires c =
     record {
-        whole = (c.requires.whole.0, omega (arith, c.i.ensures), omega arith, omega (arith, c.vl-n.ensures, c.requires.whole.3));
-        held = held _ _ _ _ c.requires.window;
+      whole = (c.requires.whole.0, omega (arith, c.i.ensures), omega arith, omega (arith, c.vl-n.ensures, c.requires.whole.3));
+      held = held _ _ _ _ c.requires.window;
     }
 
 pub returns : goal.returns

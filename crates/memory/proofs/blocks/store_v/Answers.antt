@@ -6,8 +6,8 @@ use Rattle.memory.proofs.blocks.store_v.Goals as goal
 pub store-requires : goal.store-requires
 store-requires c =
     record {
-        whole = (c.requires.whole.0, omega (arith, c.j.ensures), omega arith, omega (arith, c.vl-n.ensures, c.requires.whole.3));
-        held = held _ _ _ _ c.requires.window;
+      whole = (c.requires.whole.0, omega (arith, c.j.ensures), omega arith, omega (arith, c.vl-n.ensures, c.requires.whole.3));
+      held = held _ _ _ _ c.requires.window;
     }
 
 pub returns : goal.returns

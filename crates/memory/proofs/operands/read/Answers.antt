@@ -9,8 +9,8 @@ use Rattle.memory.proofs.operands.read.Goals as goal
 pub copy-requires : goal.copy-requires
 copy-requires c =
     let k = straight-known _ _ _ _ _ _ c.requires.whole.2 c.straight-whole.ensures in record {
-        sixteens = k.sixteens;
-        by_index = λ e l.
+      sixteens = k.sixteens;
+      by_index = λ e l.
           (omega (arith, k.registers), omega (arith, c.word_at-w.ensures, c.requires.held.inside (c.a_0-from.result % 2 ^ 22 + e) (k.inside e l)));
     }
 

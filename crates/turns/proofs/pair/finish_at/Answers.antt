@@ -17,7 +17,7 @@ pub returns : goal.returns
 returns c =
     let long : length c.finish.new.r ≡ 672 = search rules in
     record {
-        finished = lifted _ _ _ c.requires.whole.1 c.requires.whole.0 long (λ l l'. (s : Stray) → step.out c.finish.result s (state_of l') (sharing c.finish.new.mem)
+      finished = lifted _ _ _ c.requires.whole.1 c.requires.whole.0 long (λ l l'. (s : Stray) → step.out c.finish.result s (state_of l') (sharing c.finish.new.mem)
           ≡ step.finish (state_at c.args.p l) c.args.w s (registers_of l) (sharing c.args.mem.now)) c.finish.ensures;
-        pair_unchanged = kept c.args.at c.args.pair.now c.finish.new.r c.requires.whole.1 c.requires.whole.0 long;
+      pair_unchanged = kept c.args.at c.args.pair.now c.finish.new.r c.requires.whole.1 c.requires.whole.0 long;
     }

@@ -6,13 +6,13 @@ use Rattle.turns.proofs.pair.pass.Goals as goal
 pub returns-then-byte-eq0 : goal.returns-then-byte-eq0
 returns-then-byte-eq0 c =
     record {
-        at_value = (rw c.if-byte-eq0.true, refl);
-        passes = passes-first _ _ _ _ _ c.requires.1 (search rules) c.keep_p.ensures.pair_after c.keep_p.ensures.pair_unchanged _;
+      at_value = (rw c.if-byte-eq0.true, refl);
+      passes = passes-first _ _ _ _ _ c.requires.1 (search rules) c.keep_p.ensures.pair_after c.keep_p.ensures.pair_unchanged _;
     }
 
 pub returns : goal.returns
 returns c =
     record {
-        at_value = (second-side _ c.if-byte-eq0.false, refl);
-        passes = passes-second _ _ _ _ _ c.requires.1 (search rules) c.keep_p.ensures.pair_after c.keep_p.ensures.pair_unchanged _;
+      at_value = (second-side _ c.if-byte-eq0.false, refl);
+      passes = passes-second _ _ _ _ _ c.requires.1 (search rules) c.keep_p.ensures.pair_after c.keep_p.ensures.pair_unchanged _;
     }

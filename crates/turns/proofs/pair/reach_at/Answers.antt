@@ -5,9 +5,9 @@ use Rattle.turns.proofs.pair.reach_at.Goals as goal
 pub reach-requires : goal.reach-requires
 reach-requires c =
     record {
-        whole = rw seen c.requires.fitting.long;
-        bounds = rw seen (c.requires.fitting.frame.iba, c.requires.fitting.frame.ila, c.requires.fitting.frame.dba, c.requires.fitting.frame.dla);
-        memory = c.requires.fitting.most;
+      whole = rw seen c.requires.fitting.long;
+      bounds = rw seen (c.requires.fitting.frame.iba, c.requires.fitting.frame.ila, c.requires.fitting.frame.dba, c.requires.fitting.frame.dla);
+      memory = c.requires.fitting.most;
     }
 
 pub returns : goal.returns

@@ -11,15 +11,15 @@ use Rattle.turns.proofs.pair.take.Goals.{then-schedule-n, else-schedule-n}
 pub reach_at-first-requires : goal.reach_at-first-requires
 reach_at-first-requires c =
     record {
-        whole = (c.requires.whole.0, (omega arith, inl refl));
-        fitting = c.requires.both.first;
+      whole = (c.requires.whole.0, (omega arith, inl refl));
+      fitting = c.requires.both.first;
     }
 
 pub reach_at-second-requires : goal.reach_at-second-requires
 reach_at-second-requires c =
     record {
-        whole = (c.requires.whole.0, (omega arith, inr refl));
-        fitting = c.requires.both.second;
+      whole = (c.requires.whole.0, (omega arith, inr refl));
+      fitting = c.requires.both.second;
     }
 
 pub loop-n-init : goal.loop-n-init
@@ -34,29 +34,29 @@ pass-next-requires c =
 pub step_at-w-requires : goal.step_at-w-requires
 step_at-w-requires c =
     let here : Named _ _ _ _ _ _ _ _ _ _ c.loop-n.invariant c.if-schedule-n.pair c.if-schedule-n.next = elim c.if-schedule-n.branch [
-          then-schedule-n t ↦ passed _ _ _ _ _ _ _ _ _ _ c.loop-n.invariant _ _ _ _ t.pass-next.ensures.passes t.pass-next.ensures.at_value (search rules) t.pair-is t.next-is
-        | else-schedule-n t ↦ stayed _ _ _ _ _ _ _ _ _ _ c.loop-n.invariant _ _ t.if-schedule-n.false t.pair-is t.next-is
-        ] in
+      | then-schedule-n t ↦ passed _ _ _ _ _ _ _ _ _ _ c.loop-n.invariant _ _ _ _ t.pass-next.ensures.passes t.pass-next.ensures.at_value (search rules) t.pair-is t.next-is
+      | else-schedule-n t ↦ stayed _ _ _ _ _ _ _ _ _ _ c.loop-n.invariant _ _ t.if-schedule-n.false t.pair-is t.next-is
+    ] in
     let s = here.0.stands in record {
-        whole = (here.0.whole, s.side);
-        ready = s.here;
-        p_bound = s.narrow;
+      whole = (here.0.whole, s.side);
+      ready = s.here;
+      p_bound = s.narrow;
     }
 
 pub shape_of-pair-in_default : goal.shape_of-pair-in_default
 shape_of-pair-in_default c =
     let here : Named _ _ _ _ _ _ _ _ _ _ c.loop-n.invariant c.if-schedule-n.pair c.if-schedule-n.next = elim c.if-schedule-n.branch [
-          then-schedule-n t ↦ passed _ _ _ _ _ _ _ _ _ _ c.loop-n.invariant _ _ _ _ t.pass-next.ensures.passes t.pass-next.ensures.at_value (search rules) t.pair-is t.next-is
-        | else-schedule-n t ↦ stayed _ _ _ _ _ _ _ _ _ _ c.loop-n.invariant _ _ t.if-schedule-n.false t.pair-is t.next-is
-        ] in
+      | then-schedule-n t ↦ passed _ _ _ _ _ _ _ _ _ _ c.loop-n.invariant _ _ _ _ t.pass-next.ensures.passes t.pass-next.ensures.at_value (search rules) t.pair-is t.next-is
+      | else-schedule-n t ↦ stayed _ _ _ _ _ _ _ _ _ _ c.loop-n.invariant _ _ t.if-schedule-n.false t.pair-is t.next-is
+    ] in
     search (rules, here.0.whole, c.requires.whole.0)
 
 pub returns-in_default : goal.returns-in_default
 returns-in_default c =
     let here : Named _ _ _ _ _ _ _ _ _ _ c.loop-n.invariant c.if-schedule-n.pair c.if-schedule-n.next = elim c.if-schedule-n.branch [
-          then-schedule-n t ↦ passed _ _ _ _ _ _ _ _ _ _ c.loop-n.invariant _ _ _ _ t.pass-next.ensures.passes t.pass-next.ensures.at_value (search rules) t.pair-is t.next-is
-        | else-schedule-n t ↦ stayed _ _ _ _ _ _ _ _ _ _ c.loop-n.invariant _ _ t.if-schedule-n.false t.pair-is t.next-is
-        ] in
+      | then-schedule-n t ↦ passed _ _ _ _ _ _ _ _ _ _ c.loop-n.invariant _ _ _ _ t.pass-next.ensures.passes t.pass-next.ensures.at_value (search rules) t.pair-is t.next-is
+      | else-schedule-n t ↦ stayed _ _ _ _ _ _ _ _ _ _ c.loop-n.invariant _ _ t.if-schedule-n.false t.pair-is t.next-is
+    ] in
     ends _ _ _ _ _ _ _ _ _ _ _ _ _ here c.loop-n-test.true c.step_at-w.ensures.works c.step_at-w.ensures.pair_unchanged (search (rules, here.0.whole))
     (sym c.move_p.ensures ∙ c.in_default.is)
 
@@ -67,9 +67,9 @@ overflow_add-n c =
 pub loop-n-preserved : goal.loop-n-preserved
 loop-n-preserved c =
     let here : Named _ _ _ _ _ _ _ _ _ _ c.loop-n.invariant c.if-schedule-n.pair c.if-schedule-n.next = elim c.if-schedule-n.branch [
-          then-schedule-n t ↦ passed _ _ _ _ _ _ _ _ _ _ c.loop-n.invariant _ _ _ _ t.pass-next.ensures.passes t.pass-next.ensures.at_value (search rules) t.pair-is t.next-is
-        | else-schedule-n t ↦ stayed _ _ _ _ _ _ _ _ _ _ c.loop-n.invariant _ _ t.if-schedule-n.false t.pair-is t.next-is
-        ] in
+      | then-schedule-n t ↦ passed _ _ _ _ _ _ _ _ _ _ c.loop-n.invariant _ _ _ _ t.pass-next.ensures.passes t.pass-next.ensures.at_value (search rules) t.pair-is t.next-is
+      | else-schedule-n t ↦ stayed _ _ _ _ _ _ _ _ _ _ c.loop-n.invariant _ _ t.if-schedule-n.false t.pair-is t.next-is
+    ] in
     goes_on_lem _ _ _ _ _ _ _ _ _ _ _ _ _ here c.loop-n-test.true c.step_at-w.ensures.works c.step_at-w.ensures.pair_unchanged (search (rules, here.0.whole)) _
     (sym c.move_p.ensures ∙ c.in-At.is)
 

@@ -11,8 +11,8 @@ use Rattle.turns.proofs.pair.take_schedule.Goals as goal
 pub take-burst-requires : goal.take-burst-requires
 take-burst-requires c =
     record {
-        whole = (c.requires.whole.0, c.requires.whole.1, omega arith);
-        both = c.requires.both;
+      whole = (c.requires.whole.0, c.requires.whole.1, omega arith);
+      both = c.requires.both;
     }
 
 pub loop-burst-init : goal.loop-burst-init
@@ -22,16 +22,16 @@ loop-burst-init c =
 pub stray_at-stray-requires : goal.stray_at-stray-requires
 stray_at-stray-requires c =
     record {
-        whole = (c.loop-burst.invariant.size, c.loop-burst.invariant.coming.side);
-        bounds = (c.loop-burst.invariant.coming.fitting.frame.dba, c.loop-burst.invariant.coming.fitting.frame.dla);
+      whole = (c.loop-burst.invariant.size, c.loop-burst.invariant.coming.side);
+      bounds = (c.loop-burst.invariant.coming.fitting.frame.dba, c.loop-burst.invariant.coming.fitting.frame.dla);
     }
 
 pub finish_at-answer-requires : goal.finish_at-answer-requires
 finish_at-answer-requires c =
     record {
-        whole = (c.loop-burst.invariant.size, c.loop-burst.invariant.coming.side);
-        fitting = c.loop-burst.invariant.coming.fitting;
-        p_bound = (c.loop-burst.invariant.coming.narrow, c.loop-burst.invariant.coming.work);
+      whole = (c.loop-burst.invariant.size, c.loop-burst.invariant.coming.side);
+      fitting = c.loop-burst.invariant.coming.fitting;
+      p_bound = (c.loop-burst.invariant.coming.narrow, c.loop-burst.invariant.coming.work);
     }
 
 pub overflow_add-result : goal.overflow_add-result
@@ -58,8 +58,8 @@ overflow_add-n c =
 pub take-burst-requires-in-loop-burst : goal.take-burst-requires-in-loop-burst
 take-burst-requires-in-loop-burst c =
     record {
-        whole = (search (rules, c.loop-burst.invariant.size), c.requires.whole.1, omega (arith, c.loop-burst-test.true));
-        both = both _ _ _ _ _ _ _ _ _ _ _ _ c.loop-burst.invariant c.loop-burst-test.true c.stray_at-stray.ensures c.finish_at-answer.ensures.finished c.finish_at-answer.ensures.pair_unchanged (search (rules, c.loop-burst.invariant.size))
+      whole = (search (rules, c.loop-burst.invariant.size), c.requires.whole.1, omega (arith, c.loop-burst-test.true));
+      both = both _ _ _ _ _ _ _ _ _ _ _ _ c.loop-burst.invariant c.loop-burst-test.true c.stray_at-stray.ensures c.finish_at-answer.ensures.finished c.finish_at-answer.ensures.pair_unchanged (search (rules, c.loop-burst.invariant.size))
           c.newer-strays.ensures.0 c.newer-strays.ensures.1;
     }
 
