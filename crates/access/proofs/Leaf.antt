@@ -1,14 +1,12 @@
 -- From what an instruction's function wrote to what the definitions say of its code. Assumes nothing.
-use Rattle.std.proofs.Common.{◌≡◌, ℕ, ◌/◌, ◌%◌, ◌^◌, Bool, true, false, List, length, sym, refl, ap, ◌∙◌}
-use Rattle.machine.specs.declared.ParcelAddr.{ParcelAddr}
-use Rattle.machine.specs.declared.Fetched.{Fetched}
+use Rattle.std.proofs.Common.{◌≡◌, ℕ, ◌/◌, ◌%◌, ◌^◌, Bool, true, false, List, length, refl}
 use Rattle.machine.specs.declared.Fetched.TheVariants.{Parcel, Outside}
 use Rattle.machine.specs.declared.Stray.TheVariants.{Clean}
 use Rattle.machine.specs.declared.Work.{Work}
 use Rattle.machine.specs.declared.Work.TheVariants.{PastOne, To, NotHeld}
 use Rattle.machine.specs.Word.{pick}
 use Rattle.machine.specs.Parcel.{onward}
-use Rattle.machine.specs.State.{Registers, sharing, addr, user, Put, nothing, apply}
+use Rattle.machine.specs.State.{sharing, addr, user, Put, nothing, apply}
 use Rattle.machine.specs.Memory.{fetch_of}
 use Rattle.machine.specs.Act.{Instr, Act, does, goes, act}
 use Rattle.machine.specs.Codes.{Code, holds_none, holds_one, holds_two, code_of}

@@ -1,10 +1,8 @@
 -- Words that were set in one loop from place 0 on; the first 32 of a processor, which are all but B, T and V. Assumes nothing.
-use Rattle.std.proofs.Common.{◌≡◌, ℕ, zero, suc, ◌+◌, ◌<◌, ◌≤◌, Bool, true, false, eqb, List, length, get_or, take, drop, set, sym, refl, ap, ◌∙◌, not-suc-le-zero, zero-add, arith, drop-cons, get_or-set_other, get_or-set_same, eqb-true}
+use Rattle.std.proofs.Common.{◌≡◌, ℕ, zero, suc, ◌<◌, ◌≤◌, Bool, true, false, eqb, List, length, get_or, set, sym, refl, ◌∙◌, not-suc-le-zero, zero-add, arith, get_or-set_other, get_or-set_same, eqb-true}
 use borrow.Author.Tests.{eqb-false}
-use Rattle.machine.specs.State.{Registers, Frame, fill}
-use Rattle.machine.specs.Exchange.{eight}
-use Rattle.machine.specs.Layout.{part, registers_of, frame_of}
-use Rattle.access.proofs.Places.{part-after, fill-length}
+use Rattle.machine.specs.State.{fill}
+use Rattle.access.proofs.Places.{fill-length}
 
 -- a word that was set
 pub filled : (f : ℕ → ℕ) (n : ℕ) (w : List ℕ) (i : ℕ) → i < n → n ≤ length w → get_or (fill 0 f n w) i 0 ≡ f i

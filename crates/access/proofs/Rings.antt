@@ -1,5 +1,5 @@
 -- A ring of registers in a processor's words: what it comes to in the registers, and what it leaves. Assumes nothing.
-use Rattle.std.proofs.Common.{◌≡◌, ℕ, zero, suc, ◌+◌, ◌*◌, ◌%◌, ◌<◌, ◌≤◌, List, get_or, set, sym, refl, ap, ◌∙◌, add-one, arith, get_or-set_other}
+use Rattle.std.proofs.Common.{◌≡◌, ℕ, zero, suc, ◌+◌, ◌%◌, ◌≤◌, List, get_or, set, sym, refl, ◌∙◌, add-one, arith, get_or-set_other}
 use mathlib.Core.Path.{fun_ext}
 use Rattle.machine.specs.State.{to_bs, to_ts, apply, ring, fill}
 use Rattle.machine.specs.Layout.{registers_of, frame_of}

@@ -1,5 +1,5 @@
 -- The window of a field is the rule of the definitions; what is fetched through it. Assumes nothing.
-use Rattle.std.proofs.Common.{◌≡◌, ℕ, zero, suc, ◌+◌, ◌-◌, ◌*◌, ◌/◌, ◌%◌, ◌^◌, ◌<◌, ◌≤◌, Bool, true, false, ltb, leb, List, length, get_or, take, drop, sym, refl, ap, ◌∙◌, arith, length-drop, length-take-le, get_or-drop, get_or-take, ltb-false, ltb-true, le-ltb, lt-ltb, leb-false, leb-true}
+use Rattle.std.proofs.Common.{◌≡◌, ℕ, zero, suc, ◌+◌, ◌-◌, ◌*◌, ◌/◌, ◌%◌, ◌^◌, ◌<◌, ◌≤◌, Bool, true, false, ltb, leb, List, length, get_or, take, drop, sym, refl, ◌∙◌, arith, length-drop, length-take-le, get_or-drop, get_or-take, ltb-false, ltb-true, le-ltb, leb-false, leb-true}
 use borrow.Author.Tests.{lt-leb}
 use Rattle.machine.specs.declared.Reach.{Reach}
 use Rattle.machine.specs.declared.ParcelAddr.{ParcelAddr}
@@ -12,7 +12,7 @@ use Rattle.machine.specs.Word.{pick}
 use Rattle.machine.specs.Parcel.{word_of, parcel_of, onward}
 use Rattle.machine.specs.State.{Frame, addr}
 use Rattle.machine.specs.Memory.{Field, data_field, code_field, place_of, parcel_at, fetch_of}
-use Rattle.access.specs.Window.{extent, Reaches, Inside, Spot, at_place, beyond, spot_of, fetch_in, place_in}
+use Rattle.access.specs.Window.{extent, Reaches, Inside, at_place, beyond, spot_of, fetch_in, place_in}
 
 -- the lesser of a limit and a length
 least : (a b : ℕ) → (pick (leb a b) a b ≤ a) × (pick (leb a b) a b ≤ b) × ((c : ℕ) → c < a → c < b → c < pick (leb a b) a b)

@@ -1,6 +1,6 @@
 -- Parcels with no digits; codes that name no instruction; branches by their tests. Assumes nothing.
 use Prim.Native.Nat.{ℕ, zero, suc, ◌/◌, ◌%◌, ◌^◌, ◌<◌}
-use mathlib.Core.Path.{◌≡◌, refl, sym, ◌∙◌}
+use mathlib.Core.Path.{◌≡◌, refl, ◌∙◌}
 use mathlib.Core.Bool.{Bool, true, false, ◌&&◌, not}
 use mathlib.Core.List.{List, [], ◌∷◌}
 use native.Mathlib.Omega.{arith}
@@ -13,7 +13,7 @@ use Rattle.machine.specs.Parcel.{i_of, j_of, k_of, ijkm_of}
 use Rattle.machine.specs.State.{Registers}
 use Rattle.machine.specs.Act.{Instr, pass, set_ior, clear_ior, clear_bdm, set_bdm, jump_az, jump_an, jump_ap}
 use Rattle.machine.specs.Act.{jump_am, jump_sz, jump_sn, jump_sp, jump_sm, constant_ah, branch, act}
-use Rattle.machine.specs.Codes.{Code, holds_none, holds_one, holds_two, nth, rows, branch_or, code_of, code001, code002}
+use Rattle.machine.specs.Codes.{Code, holds_none, holds_one, holds_two, nth, rows, branch_or, code_of, code002}
 use Rattle.access.proofs.Finite.{every, every-at}
 use Rattle.control.specs.declared.Test.{Test}
 use Rattle.control.specs.declared.Test.TheVariants.{ZeroA, NonZeroA, PlusA, MinusA, ZeroS, NonZeroS, PlusS, MinusS}

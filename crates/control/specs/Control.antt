@@ -1,8 +1,7 @@
 -- What branches test, by the names that the code gives the tests; and which codes name no instruction. Assumes nothing.
-use Rattle.std.specs.Prelude.{ℕ, ◌+◌, Bool, not, ◌&&◌, ◌||◌, eqb, leb}
+use Rattle.std.specs.Prelude.{ℕ, Bool, not, ◌&&◌, ◌||◌, eqb, leb}
 use Rattle.machine.specs.Word.{minus24, minus64}
 use Rattle.machine.specs.State.{Registers, ai, si}
-use Rattle.machine.specs.Act.{Instr, jump_az, jump_an, jump_ap, jump_am, jump_sz, jump_sn, jump_sp, jump_sm}
 use Rattle.control.specs.declared.Test.{Test}
 use Rattle.control.specs.declared.Test.TheVariants.{ZeroA, NonZeroA, PlusA, MinusA, ZeroS, NonZeroS, PlusS, MinusS}
 

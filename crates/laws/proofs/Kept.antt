@@ -1,6 +1,6 @@
 -- Every number keeps its width, so that what a start, a step, a turn, a run or a pair run leaves is met neither by refusal 4 nor by 7. The 64
 -- bits of S, T, V, VM and memory, which no refusal asks, belong to it: 026 counts the ones of an S into an A. Assumes nothing.
-use Prim.Native.Nat.{ℕ, zero, suc, ◌+◌, ◌*◌, ◌%◌, ◌^◌, ◌<◌, ◌≤◌}
+use Prim.Native.Nat.{ℕ, zero, suc, ◌+◌, ◌*◌, ◌%◌, ◌^◌, ◌<◌}
 use mathlib.Core.Path.{◌≡◌, refl, ◌∙◌}
 use mathlib.Core.Bool.{true, ◌&&◌}
 use mathlib.Core.List.{List, [], ◌∷◌}

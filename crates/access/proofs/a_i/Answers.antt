@@ -1,4 +1,4 @@
-use Rattle.std.proofs.Common.{sym, arith, rules}
+use Rattle.std.proofs.Common.{sym, arith}
 use Rattle.access.proofs.Places.{a_at}
 use Rattle.access.proofs.a_i.Goals as goal
 

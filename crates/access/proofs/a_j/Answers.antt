@@ -1,4 +1,4 @@
-use Rattle.std.proofs.Common.{arith, rules}
+use Rattle.std.proofs.Common.{arith}
 use Rattle.machine.specs.Parcel.{j_of}
 use Rattle.access.proofs.Places.{a_at}
 use Rattle.access.proofs.a_j.Goals as goal

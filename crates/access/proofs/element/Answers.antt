@@ -1,4 +1,4 @@
-use Rattle.std.proofs.Common.{sym, arith, rules}
+use Rattle.std.proofs.Common.{sym, arith}
 use Rattle.access.proofs.Places.{el-at}
 use Rattle.access.proofs.element.Goals as goal
 

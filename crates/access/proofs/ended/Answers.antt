@@ -1,4 +1,4 @@
-use Rattle.std.proofs.Common.{refl, rules, ne_eqb}
+use Rattle.std.proofs.Common.{refl, ne_eqb}
 use Rattle.access.proofs.ended.Goals as goal
 
 pub returns-then-parcels-eq1 : goal.returns-then-parcels-eq1

@@ -1,4 +1,4 @@
-use Rattle.std.proofs.Common.{rules, ne_eqb}
+use Rattle.std.proofs.Common.{ne_eqb}
 use Rattle.machine.specs.Work.{no_parcel}
 use Rattle.machine.specs.Layout.{frame_of}
 use Rattle.access.proofs.no_parcel.Goals as goal

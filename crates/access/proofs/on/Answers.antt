@@ -1,4 +1,4 @@
-use Rattle.std.proofs.Common.{◌≡◌, ◌%◌, ◌^◌, ap, arith, rules}
+use Rattle.std.proofs.Common.{◌≡◌, ◌%◌, ◌^◌, ap, arith}
 use Rattle.machine.specs.Parcel.{onward}
 use Rattle.machine.specs.State.{addr}
 use Rattle.access.proofs.on.Goals as goal

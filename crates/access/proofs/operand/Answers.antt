@@ -1,4 +1,4 @@
-use Rattle.std.proofs.Common.{rules, ne_eqb}
+use Rattle.std.proofs.Common.{ne_eqb}
 use Rattle.access.proofs.operand.Goals as goal
 
 pub returns-then-n-eq0 : goal.returns-then-n-eq0

@@ -1,4 +1,4 @@
-use Rattle.std.proofs.Common.{arith, rules, le-leb}
+use Rattle.std.proofs.Common.{arith, le-leb}
 use borrow.Author.Tests.{lt-leb}
 use Rattle.machine.specs.Memory.{place_of}
 use Rattle.machine.specs.Layout.{frame_of}

@@ -1,4 +1,4 @@
-use Rattle.std.proofs.Common.{refl, rules}
+use Rattle.std.proofs.Common.{refl}
 use Rattle.access.proofs.put_a.Goals as goal
 
 pub returns : goal.returns

@@ -1,4 +1,4 @@
-use Rattle.std.proofs.Common.{arith, rules}
+use Rattle.std.proofs.Common.{arith}
 use Rattle.machine.specs.Parcel.{k_of}
 use Rattle.access.proofs.Places.{s-at}
 use Rattle.access.proofs.s_k.Goals as goal

@@ -1,4 +1,4 @@
-use Rattle.std.proofs.Common.{arith, rules}
+use Rattle.std.proofs.Common.{arith}
 use Rattle.access.proofs.Places.{to-control, control-low}
 use Rattle.access.proofs.set_control.Goals as goal
 

@@ -1,4 +1,4 @@
-use Rattle.std.proofs.Common.{arith, rules}
+use Rattle.std.proofs.Common.{arith}
 use Rattle.access.proofs.Places.{to-element}
 use Rattle.access.proofs.set_element.Goals as goal
 

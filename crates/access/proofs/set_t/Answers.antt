@@ -1,4 +1,4 @@
-use Rattle.std.proofs.Common.{arith, rules}
+use Rattle.std.proofs.Common.{arith}
 use Rattle.access.proofs.Places.{to-t}
 use Rattle.access.proofs.set_t.Goals as goal
 

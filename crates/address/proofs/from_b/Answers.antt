@@ -1,7 +1,6 @@
 use Rattle.machine.specs.Act.{a_from_b, act}
 use Rattle.machine.specs.Codes.{code_of}
 use Rattle.access.proofs.Leaf.{puts}
-use borrow.Author.Rules.{rules}
 use Rattle.address.proofs.from_b.Goals as goal
 
 pub returns : goal.returns

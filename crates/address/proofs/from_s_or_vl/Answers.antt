@@ -2,7 +2,6 @@ use borrow.Author.Tests.{ne_eqb}
 use Rattle.machine.specs.Act.{a_from_s, a_from_vl, act}
 use Rattle.machine.specs.Codes.{code_of}
 use Rattle.access.proofs.Leaf.{puts, not-held}
-use borrow.Author.Rules.{rules}
 use Rattle.address.proofs.from_s_or_vl.Goals as goal
 use Rattle.address.proofs.from_s_or_vl.Goals.{else-j-eq0-via-then-j-eq0+else-last-eq1, else-j-eq0-via-else-j-eq0}
 

@@ -2,7 +2,6 @@ use mathlib.Core.Path.{refl}
 use Rattle.machine.specs.Act.{b_from_a, act}
 use Rattle.machine.specs.Codes.{code_of}
 use Rattle.access.proofs.Leaf.{puts}
-use borrow.Author.Rules.{rules}
 use Rattle.address.proofs.to_b.Goals as goal
 
 pub returns : goal.returns

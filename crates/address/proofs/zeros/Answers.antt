@@ -2,7 +2,6 @@ use borrow.Author.Tests.{ne_eqb}
 use Rattle.machine.specs.Act.{a_zeros, act}
 use Rattle.machine.specs.Codes.{code_of}
 use Rattle.access.proofs.Leaf.{puts, not-held}
-use borrow.Author.Rules.{rules}
 use Rattle.address.proofs.zeros.Goals as goal
 
 pub returns-then-k-eq0 : goal.returns-then-k-eq0

@@ -4,7 +4,6 @@ use Rattle.machine.specs.Act.{constant_ah, act}
 use Rattle.access.proofs.Windows.{code_inside, second, second-narrow}
 use Rattle.access.proofs.Leaf.{puts-two, goes-two, puts-nothing, lost}
 use Rattle.control.proofs.Laws.{jump_of, test-code, test-two, test-act}
-use borrow.Author.Rules.{rules}
 use Rattle.control.proofs.branch.Goals as goal
 
 pub fetch-requires : goal.fetch-requires

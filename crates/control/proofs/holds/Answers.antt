@@ -1,4 +1,3 @@
-use borrow.Author.Rules.{rules}
 use Rattle.control.proofs.holds.Goals as goal
 
 pub returns-in-ZeroA : goal.returns-in-ZeroA

@@ -4,7 +4,6 @@ use Rattle.machine.specs.Act.{jump, act}
 use Rattle.machine.specs.Codes.{code_of}
 use Rattle.access.proofs.Windows.{code_inside, second, second-narrow}
 use Rattle.access.proofs.Leaf.{goes-two, puts-nothing, not-held, lost}
-use borrow.Author.Rules.{rules}
 use Rattle.control.proofs.jump.Goals as goal
 
 pub returns-then-i-ge4 : goal.returns-then-i-ge4

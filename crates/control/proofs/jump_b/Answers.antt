@@ -5,7 +5,6 @@ use Rattle.machine.specs.Codes.{code_of}
 use Rattle.machine.specs.State.{apply}
 use Rattle.machine.specs.Work.{perform}
 use Rattle.access.proofs.Leaf.{one, not-held}
-use borrow.Author.Rules.{rules}
 use Rattle.control.proofs.jump_b.Goals as goal
 
 pub returns-then-i-eq0 : goal.returns-then-i-eq0

@@ -5,7 +5,6 @@ use native.Mathlib.Omega.{arith}
 use Rattle.machine.specs.Act.{set_vl, act}
 use Rattle.machine.specs.Codes.{code_of, code002}
 use Rattle.access.proofs.Leaf.{puts, not-held}
-use borrow.Author.Rules.{rules}
 use Rattle.control.proofs.modes.Goals as goal
 
 pub returns-then-j-ne0 : goal.returns-then-j-ne0

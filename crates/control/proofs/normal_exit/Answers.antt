@@ -3,7 +3,6 @@ use Rattle.machine.specs.Act.{normal_exit, act}
 use Rattle.machine.specs.Codes.{code_of}
 use Rattle.machine.specs.Work.{perform}
 use Rattle.access.proofs.Leaf.{one, not-held}
-use borrow.Author.Rules.{rules}
 use Rattle.control.proofs.normal_exit.Goals as goal
 
 pub returns-then-no_digits : goal.returns-then-no_digits

@@ -1,4 +1,3 @@
-use borrow.Author.Rules.{rules}
 use Rattle.control.proofs.passes.Goals as goal
 
 pub returns-then-user : goal.returns-then-user

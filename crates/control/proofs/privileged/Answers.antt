@@ -1,10 +1,9 @@
 use mathlib.Core.Path.{refl}
-use mathlib.Core.Logic.{inl, inr}
+use mathlib.Core.Logic.{inl}
 use borrow.Author.Tests.{ne_eqb}
 use Rattle.machine.specs.Act.{pass, set_xa, act}
 use Rattle.machine.specs.Codes.{code_of, code001}
 use Rattle.access.proofs.Leaf.{puts, puts-nothing, not-held}
-use borrow.Author.Rules.{rules}
 use Rattle.control.proofs.privileged.Goals as goal
 
 pub returns-then-passes : goal.returns-then-passes

@@ -1,10 +1,8 @@
-use mathlib.Core.Path.{refl}
 use borrow.Author.Tests.{lt-ltb, le-ltb}
 use Rattle.machine.specs.Act.{return_jump, act}
 use Rattle.machine.specs.Codes.{code_of}
 use Rattle.access.proofs.Windows.{code_inside, second, second-narrow}
 use Rattle.access.proofs.Leaf.{goes-two, not-held, lost}
-use borrow.Author.Rules.{rules}
 use Rattle.control.proofs.return_jump.Goals as goal
 
 pub returns-then-i-ge4 : goal.returns-then-i-ge4

@@ -4,7 +4,6 @@ use borrow.Author.Tests.{ne_eqb}
 use Rattle.machine.specs.Act.{vm_from_s, act}
 use Rattle.machine.specs.Codes.{code_of}
 use Rattle.access.proofs.Leaf.{puts, not-held}
-use borrow.Author.Rules.{rules}
 use Rattle.control.proofs.set_mask.Goals as goal
 use Rattle.control.proofs.set_mask.Goals.{else-i-eq0-via-then-i-eq0+else-k-eq0, else-i-eq0-via-else-i-eq0}
 

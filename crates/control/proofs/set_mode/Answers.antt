@@ -3,7 +3,6 @@ use mathlib.Core.Logic.{inl, inr}
 use Rattle.machine.specs.Act.{pass, set_ior, clear_ior, clear_bdm, set_bdm, act}
 use Rattle.access.proofs.Leaf.{puts, puts-nothing, not-held}
 use Rattle.control.proofs.Laws.{mode, no_mode}
-use borrow.Author.Rules.{rules}
 use Rattle.control.proofs.set_mode.Goals as goal
 
 pub put_control-requires : goal.put_control-requires

@@ -3,7 +3,6 @@ use mathlib.Core.Path.{ap}
 use native.Mathlib.Omega.{arith}
 use Rattle.machine.specs.declared.Work.TheVariants.{To}
 use Rattle.machine.specs.State.{addr}
-use borrow.Author.Rules.{rules}
 use Rattle.control.proofs.to.Goals as goal
 
 pub returns : goal.returns

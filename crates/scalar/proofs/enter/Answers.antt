@@ -5,7 +5,6 @@ use Rattle.machine.specs.Act.{constant_s, complement_s, act}
 use Rattle.machine.specs.Codes.{code_of}
 use Rattle.access.proofs.Windows.{code_inside, second, second-narrow}
 use Rattle.access.proofs.Leaf.{act_at, puts-two, lost, either-code, either-act}
-use borrow.Author.Rules.{rules}
 use Rattle.scalar.proofs.enter.Goals as goal
 
 pub fetch-requires : goal.fetch-requires

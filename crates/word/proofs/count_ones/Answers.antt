@@ -1,5 +1,5 @@
 use lib.Count.{ones-le}
-use Rattle.std.proofs.Common.{arith, rules}
+use Rattle.std.proofs.Common.{arith}
 use Rattle.word.proofs.count_ones.Goals as goal
 
 pub overflow_cast-result : goal.overflow_cast-result

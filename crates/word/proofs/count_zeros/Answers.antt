@@ -1,5 +1,5 @@
 use lib.Count.{leading_le}
-use Rattle.std.proofs.Common.{arith, rules}
+use Rattle.std.proofs.Common.{arith}
 use Rattle.word.proofs.count_zeros.Goals as goal
 
 pub overflow_cast-result : goal.overflow_cast-result

@@ -1,4 +1,4 @@
-use Rattle.std.proofs.Common.{◌^◌, ◌<◌, sym, ◌∙◌, mod-eq_of_lt, arith, rules}
+use Rattle.std.proofs.Common.{◌^◌, ◌<◌, sym, ◌∙◌, mod-eq_of_lt, arith}
 use Rattle.machine.specs.Word.{difference64}
 use Rattle.word.proofs.Laws.{difference-mod}
 use Rattle.word.proofs.difference.Goals as goal

@@ -1,4 +1,3 @@
-use Rattle.std.proofs.Common.{rules}
 use Rattle.machine.specs.Word.{difference24}
 use Rattle.word.proofs.Laws.{difference-mod}
 use Rattle.word.proofs.difference_24.Goals as goal

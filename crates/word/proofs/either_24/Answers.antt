@@ -1,4 +1,3 @@
-use Rattle.std.proofs.Common.{rules}
 use Rattle.word.proofs.either_24.Goals as goal
 
 pub returns-then-complement : goal.returns-then-complement

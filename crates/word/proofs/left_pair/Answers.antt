@@ -1,4 +1,4 @@
-use Rattle.std.proofs.Common.{◌≡◌, ◌+◌, ◌-◌, ◌∙◌, arith, rules}
+use Rattle.std.proofs.Common.{◌≡◌, ◌+◌, ◌-◌, ◌∙◌, arith}
 use Rattle.machine.specs.Word.{shift_left, shift_right, shift_left_pair}
 use Rattle.word.proofs.Laws.{pair_lt, pair_left, pair-left-far}
 use Rattle.word.proofs.left_pair.Goals as goal

@@ -1,4 +1,3 @@
-use Rattle.std.proofs.Common.{rules}
 use Rattle.machine.specs.Word.{parity}
 use Rattle.word.proofs.odd_ones.Goals as goal
 

@@ -1,4 +1,4 @@
-use Rattle.std.proofs.Common.{◌≡◌, ◌+◌, ◌-◌, ◌%◌, arith, pow_pos, rules}
+use Rattle.std.proofs.Common.{◌≡◌, ◌+◌, ◌-◌, ◌%◌, arith, pow_pos}
 use Rattle.machine.specs.Word.{ones_left}
 use Rattle.word.proofs.Laws.{ones_shr}
 use Rattle.word.proofs.ones_left.Goals as goal

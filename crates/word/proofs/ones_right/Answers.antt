@@ -1,4 +1,4 @@
-use Rattle.std.proofs.Common.{◌≡◌, ◌+◌, ◌-◌, ◌%◌, arith, rules}
+use Rattle.std.proofs.Common.{◌≡◌, ◌+◌, ◌-◌, ◌%◌, arith}
 use Rattle.machine.specs.Word.{ones_right}
 use Rattle.word.proofs.Laws.{ones_shr}
 use Rattle.word.proofs.ones_right.Goals as goal

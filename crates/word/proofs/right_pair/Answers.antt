@@ -1,4 +1,4 @@
-use Rattle.std.proofs.Common.{◌≡◌, ◌+◌, ◌-◌, ◌∙◌, add_comm, arith, rules}
+use Rattle.std.proofs.Common.{◌≡◌, ◌+◌, ◌-◌, ◌∙◌, add_comm, arith}
 use Rattle.machine.specs.Word.{shift_left, shift_right, shift_right_pair}
 use Rattle.word.proofs.Laws.{pair_lt, pair-right, pair-right-far}
 use Rattle.word.proofs.right_pair.Goals as goal

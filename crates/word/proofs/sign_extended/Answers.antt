@@ -1,4 +1,4 @@
-use Rattle.std.proofs.Common.{rules, le-ltb, lt-ltb}
+use Rattle.std.proofs.Common.{le-ltb, lt-ltb}
 use Rattle.machine.specs.Word.{signed}
 use Rattle.word.proofs.sign_extended.Goals as goal
 

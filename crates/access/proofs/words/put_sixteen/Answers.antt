@@ -1,4 +1,4 @@
-use Rattle.std.proofs.Common.{◌≡◌, ◌-◌, ◌≤◌, length, get_or, refl, arith, length-set, rules}
+use Rattle.std.proofs.Common.{◌≡◌, refl, arith, length-set, rules}
 use Rattle.machine.specs.State.{fill}
 use Rattle.access.proofs.Places.{fill-turn}
 use Rattle.access.proofs.words.put_sixteen.Goals as goal

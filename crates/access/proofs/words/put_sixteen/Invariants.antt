@@ -1,6 +1,5 @@
-use Rattle.std.proofs.Common.{◌≡◌, ◌-◌, ◌≤◌, length, get_or, refl, arith, length-set, rules}
+use Rattle.std.proofs.Common.{◌≡◌, ◌-◌, ◌≤◌, length, get_or}
 use Rattle.machine.specs.State.{fill}
-use Rattle.access.proofs.Places.{fill-turn}
 use Rattle.access.proofs.words.put_sixteen.Given as goal
 
 abbrev pub invariant-loop-n : goal.invariant-loop-n

@@ -1,6 +1,5 @@
-use Rattle.std.proofs.Common.{◌≡◌, ◌+◌, ◌-◌, ◌≤◌, get_or, refl, zero-add, arith, rules}
+use Rattle.std.proofs.Common.{◌≡◌, refl, zero-add, arith, rules}
 use Rattle.machine.specs.State.{fill}
-use Rattle.access.specs.Executed.{cut_to}
 use Rattle.access.proofs.Places.{fill-turn}
 use Rattle.access.proofs.Low.{filled}
 use Rattle.access.proofs.words.sixteen.Goals as goal

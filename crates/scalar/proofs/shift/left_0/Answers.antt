@@ -2,7 +2,6 @@ use mathlib.Core.Path.{refl}
 use Rattle.machine.specs.Act.{left_s0, act}
 use Rattle.machine.specs.Codes.{code_of}
 use Rattle.access.proofs.Leaf.{puts}
-use borrow.Author.Rules.{rules}
 use Rattle.scalar.proofs.shift.left_0.Goals as goal
 
 pub returns : goal.returns

@@ -1,7 +1,6 @@
 use Rattle.machine.specs.Act.{left_pair_s, act}
 use Rattle.machine.specs.Codes.{code_of}
 use Rattle.access.proofs.Leaf.{puts}
-use borrow.Author.Rules.{rules}
 use Rattle.scalar.proofs.shift.left_pair.Goals as goal
 
 pub returns : goal.returns

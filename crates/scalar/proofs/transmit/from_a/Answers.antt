@@ -4,7 +4,6 @@ use lib.ListN.{get_or-eq_default}
 use Rattle.machine.specs.Act.{s_from_a, s_from_signed_a, act}
 use Rattle.machine.specs.Codes.{code_of}
 use Rattle.access.proofs.Leaf.{puts, not-held}
-use borrow.Author.Rules.{rules}
 use Rattle.scalar.proofs.transmit.from_a.Goals as goal
 
 pub returns-in-0 : goal.returns-in-0

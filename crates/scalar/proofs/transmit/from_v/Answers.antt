@@ -1,7 +1,6 @@
 use Rattle.machine.specs.Act.{s_from_v, act}
 use Rattle.machine.specs.Codes.{code_of}
 use Rattle.access.proofs.Leaf.{puts}
-use borrow.Author.Rules.{rules}
 use Rattle.scalar.proofs.transmit.from_v.Goals as goal
 
 pub returns : goal.returns

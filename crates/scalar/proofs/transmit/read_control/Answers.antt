@@ -6,7 +6,6 @@ use Rattle.machine.specs.Act.{s_from_vm, s_from_status, act}
 use Rattle.machine.specs.Codes.{code_of}
 use Rattle.access.proofs.Leaf.{puts, not-held}
 use Rattle.scalar.proofs.Control.{beyond}
-use borrow.Author.Rules.{rules}
 use Rattle.scalar.proofs.transmit.read_control.Goals as goal
 
 pub returns-in-0 : goal.returns-in-0

@@ -1,6 +1,5 @@
 use native.Mathlib.Omega.{arith}
 use borrow.Author.Tests.{ne_eqb}
-use borrow.Author.Rules.{rules}
 use Rattle.scalar.proofs.transmit.status_of.Goals as goal
 
 pub returns-then-cln-eq0 : goal.returns-then-cln-eq0

@@ -2,7 +2,6 @@ use mathlib.Core.Path.{refl}
 use Rattle.machine.specs.Act.{t_from_s, act}
 use Rattle.machine.specs.Codes.{code_of}
 use Rattle.access.proofs.Leaf.{puts}
-use borrow.Author.Rules.{rules}
 use Rattle.scalar.proofs.transmit.to_t.Goals as goal
 
 pub returns : goal.returns
