@@ -5,8 +5,9 @@
 
 ghost use Rattle.std.specs.Prelude.{◌+◌, ◌*◌, ◌≤◌, length};
 
-use libc::{STDERR_FILENO, STDIN_FILENO, STDOUT_FILENO};
 use octal::Address;
+use std::env::{Env, FillError};
+use std::io::{self, Write};
 
 // What the arguments ask for.
 #[derive(Clone, Copy)]
@@ -17,62 +18,67 @@ enum Task {
 }
 
 // One argument at most, an address.
-fn asked() -> Task {
-    let count = os::arg_count();
-    if count < 2 {
-        return Task::Octal;
-    }
-    if 2 < count {
-        return Task::Unknown;
-    }
+fn asked(rt: &impl Env) -> Task {
     let mut word = [0u8; 8];
-    let n = os::arg(1, &mut word);
-    match octal::word_address(&word[..n]) {
-        Address::At(a) => Task::Words(a),
-        Address::NoAddress => Task::Unknown,
+    match (rt.arg(1, &mut word), rt.arg(2, &mut [])) {
+        (Err(FillError::NotPresent), _) => Task::Octal,
+        (Ok(n), Err(FillError::NotPresent)) => match octal::word_address(&word[..n]) {
+            Address::At(a) => Task::Words(a),
+            Address::NoAddress => Task::Unknown,
+        },
+        _ => Task::Unknown,
     }
 }
 
 // Reads the text and writes its parcels.
-fn answer_octal(text: &mut [u8], parcels: &mut [u16], out: &mut [u8])
+fn answer_octal(
+    rt: &(impl Input + Print),
+    text: &mut [u8],
+    parcels: &mut [u16],
+    out: &mut [u8],
+) -> io::Result<()>
     requires { 272 + 7 * length parcels.old ≤ length out.old }
 {
-    let n = io::read_full(STDIN_FILENO, text);
+    let n = input::read_full(&mut rt.reader(), text)?;
     let end = desk::cal(&text[..n], parcels, out);
-    io::write_all(STDOUT_FILENO, &out[..end]);
+    io::writer(rt).write_all(&out[..end])
 }
 
 // Reads the text and writes its words.
-fn answer_words(address: u64, text: &mut [u8], parcels: &mut [u16], out: &mut [u8])
+fn answer_words(
+    rt: &(impl Input + Print),
+    address: u64,
+    text: &mut [u8],
+    parcels: &mut [u16],
+    out: &mut [u8],
+) -> io::Result<()>
     requires { 90112 ≤ length out.old }
 {
-    let n = io::read_full(STDIN_FILENO, text);
+    let n = input::read_full(&mut rt.reader(), text)?;
     let end = desk::cal_words(&text[..n], address, parcels, out);
-    io::write_all(STDOUT_FILENO, &out[..end]);
+    io::writer(rt).write_all(&out[..end])
 }
 
 // Answers on arrays: the prover counts an array that main lends as a slice, and these are too long for that.
 fn answer(
+    rt: &(impl Input + Print + Eprint),
     task: Task,
     text: &mut [u8; 1048577],
     parcels: &mut [u16; 524288],
     out: &mut [u8; 3670288],
-) {
+) -> io::Result<()> {
     match task {
-        Task::Octal => answer_octal(text, parcels, out),
-        Task::Words(a) => answer_words(a, text, parcels, out),
+        Task::Octal => answer_octal(rt, text, parcels, out),
+        Task::Words(a) => answer_words(rt, a, text, parcels, out),
         Task::Unknown => {
-            io::write_all(
-                STDERR_FILENO,
-                b"cal: the only argument is a word address in hex, 0 to FFF\n",
-            );
+            eprintln!(rt; "cal: the only argument is a word address in hex, 0 to FFF")
         }
     }
 }
 
-fn main() {
+fn main(rt: HostRuntime) -> io::Result<()> {
     let mut text = [0u8; 1048577];
     let mut parcels = [0u16; 524288];
     let mut out = [0u8; 3670288];
-    answer(asked(), &mut text, &mut parcels, &mut out);
+    answer(&rt, asked(&rt), &mut text, &mut parcels, &mut out)
 }

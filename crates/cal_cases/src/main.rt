@@ -4,17 +4,9 @@
 
 ghost use Rattle.std.specs.Prelude.{◌≡◌, true, ◌≤◌, length};
 
-use libc::STDOUT_FILENO;
-
-// The four digits of a number below 10,000.
-fn name_of(k: u64) -> [u8; 4] {
-    [
-        (48 + k / 1000 % 10) as u8,
-        (48 + k / 100 % 10) as u8,
-        (48 + k / 10 % 10) as u8,
-        (48 + k % 10) as u8,
-    ]
-}
+use std::fs::{self, Files};
+use std::io::{self, Write};
+use std::str;
 
 // Whether a file begins with a line.
 fn begins(file: &[u8], line: &[u8]) -> bool
@@ -49,22 +41,23 @@ fn answer(file: &[u8], out: &mut [u8]) -> usize
 }
 
 // One case.
-fn put_case(k: u64) {
-    let name = name_of(k);
-    io::write_all(STDOUT_FILENO, b"case=");
-    io::write_all(STDOUT_FILENO, &name);
-    io::write_all(STDOUT_FILENO, b"\n");
-    let fd = os::open_read(&name);
-    let mut file = [0u8; 65536];
-    let n = io::read_full(fd, &mut file);
-    libc::close(fd);
+fn put_case(rt: &(impl Files + Print), k: u64) -> io::Result<()> {
+    let name = input::name_of(k);
+    let mut standard_out = io::writer(rt);
+    standard_out.write_all(b"case=")?;
+    standard_out.write_all(&name)?;
+    standard_out.write_all(b"\n")?;
+    let mut file = fs::open(rt, str::from_utf8(&name).unwrap())?;
+    let mut text = [0u8; 65536];
+    let n = input::read_full(&mut file, &mut text)?;
     let mut out = [0u8; 229648];
-    let end = answer(&file[..n], &mut out);
-    io::write_all(STDOUT_FILENO, &out[..end]);
+    let end = answer(&text[..n], &mut out);
+    standard_out.write_all(&out[..end])
 }
 
-fn main() {
+fn main(rt: HostRuntime) -> io::Result<()> {
     for k in 0..461 {
-        put_case(k);
+        put_case(&rt, k)?;
     }
+    Ok(())
 }

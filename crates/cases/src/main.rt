@@ -1,35 +1,28 @@
 // Answers the stored case sheets: the files 0000 to 1499 of data/, each after a line of its number.
 #![tactic(auto)]
 
-use libc::STDOUT_FILENO;
-
-// The four digits of a number below 10,000.
-fn name_of(k: u64) -> [u8; 4] {
-    [
-        (48 + k / 1000 % 10) as u8,
-        (48 + k / 100 % 10) as u8,
-        (48 + k / 10 % 10) as u8,
-        (48 + k % 10) as u8,
-    ]
-}
+use std::fs::{self, Files};
+use std::io::{self, Write};
+use std::str;
 
 // One case.
-fn put_case(k: u64) {
-    let name = name_of(k);
-    io::write_all(STDOUT_FILENO, b"case=");
-    io::write_all(STDOUT_FILENO, &name);
-    io::write_all(STDOUT_FILENO, b"\n");
-    let fd = os::open_read(&name);
+fn put_case(rt: &(impl Files + Print), k: u64) -> io::Result<()> {
+    let name = input::name_of(k);
+    let mut standard_out = io::writer(rt);
+    standard_out.write_all(b"case=")?;
+    standard_out.write_all(&name)?;
+    standard_out.write_all(b"\n")?;
+    let mut file = fs::open(rt, str::from_utf8(&name).unwrap())?;
     let mut sheet = [0u8; 24577];
-    let n = io::read_full(fd, &mut sheet);
-    libc::close(fd);
+    let n = input::read_full(&mut file, &mut sheet)?;
     let mut out = [0u8; 98304];
     let end = case::answer(&sheet[..n], &mut out);
-    io::write_all(STDOUT_FILENO, &out[..end]);
+    standard_out.write_all(&out[..end])
 }
 
-fn main() {
+fn main(rt: HostRuntime) -> io::Result<()> {
     for k in 0..1500 {
-        put_case(k);
+        put_case(&rt, k)?;
     }
+    Ok(())
 }

@@ -84,6 +84,9 @@ pub struct Next {
     pub byte: u8,
 }
 
+// The byte that names the first processor; every other names the second.
+const FIRST: u8 = 0;
+
 // The next step is of the processor that a byte names. P of the one before goes to its place, and the other's comes from its own.
 fn pass(pair: &mut [u64], first: Reach, second: Reach, from: Next, byte: u8) -> Next
     requires { (length pair.old ≡ 1344) × Side from.at }
@@ -91,7 +94,7 @@ fn pass(pair: &mut [u64], first: Reach, second: Reach, from: Next, byte: u8) -> 
     ensures passes { Passes from result first second pair.old pair.new }
 {
     keep_p(pair, from.at, from.p);
-    if byte == 0 {
+    if byte == FIRST {
         return Next {
             at: 0,
             p: ParcelAddr(pair[access::P]),

@@ -18,8 +18,8 @@ reach_at-first-requires c =
 pub reach_at-second-requires : goal.reach_at-second-requires
 reach_at-second-requires c =
     record {
-      whole = (c.requires.whole.0, (omega arith, inr refl));
-      fitting = c.requires.both.second;
+      whole = (c.requires.whole.0, search rules);
+      fitting = search (rules, c.requires.both.first, c.requires.both.second);
     }
 
 pub loop-n-init : goal.loop-n-init
