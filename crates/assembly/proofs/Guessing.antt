@@ -11,8 +11,8 @@ use lib.Dec.{eqb, ltb, leb}
 use borrow.Author.Tests.{eqb-true, eqb-false, ltb-true, ltb-false, leb-true, leb-false}
 use Rattle.machine.specs.Word.{pick, bit}
 use Rattle.spelling.specs.Spelling.{second}
-use Rattle.spelling.specs.Listing.{data_line, line_of, listed}
-use Rattle.spelling.specs.Candidate.{Guess, one, guess_by, guess_of, packed}
+use Rattle.spelling.specs.Listing.{data_line, line_of}
+use Rattle.spelling.specs.Candidate.{Guess, guess_by, guess_of, packed}
 use Rattle.spelling.specs.Assembling.{begins, line_good, line_bad, line_is, if_last, line_by, parcels_of, read_line}
 use Rattle.spelling.proofs.Lines.{data-length, line-most}
 use Rattle.spelling.proofs.Texts.{begins-short}

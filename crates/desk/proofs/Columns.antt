@@ -7,7 +7,7 @@ use native.Mathlib.Nat.{mod-lt}
 use native.Mathlib.Omega.{arith}
 use lib.ListN.{length, take, get_or, set}
 use lib.Dec.{lit<}
-use Rattle.text.specs.Digits.{digits, shown}
+use Rattle.text.specs.Digits.{shown}
 use Rattle.text.specs.Report.{Wrote}
 use Rattle.text.proofs.Reading.{left-suc}
 use Rattle.text.proofs.Writing.{then, wrote-byte, wrote_none, wrote_as}

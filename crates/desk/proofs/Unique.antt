@@ -10,7 +10,7 @@ use Rattle.text.proofs.Unique.{wrote-unique}
 use Rattle.spelling.specs.Listing.{parcels_in}
 use Rattle.desk.specs.declared.Input.{Input}
 use Rattle.desk.specs.declared.Input.TheVariants.{Holds, Refused}
-use Rattle.desk.specs.Desk.{Given, some, refusal, cal_given, octal_given, room_given, cal_of, cal_words_of, listing_of, wide_line, Gives}
+use Rattle.desk.specs.Desk.{Given, cal_given, octal_given, room_given, cal_of, cal_words_of, listing_of, wide_line, Gives}
 use Rattle.desk.proofs.Texts.{held}
 
 module _ (room room' room'' out out' out'' : List ℕ) where

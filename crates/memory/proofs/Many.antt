@@ -1,5 +1,5 @@
 -- 034 to 037, 176 and 177: from the row that was moved to what the definitions say of the code. Assumes nothing.
-use Rattle.std.proofs.Common.{◌≡◌, ℕ, zero, suc, ◌+◌, ◌*◌, ◌/◌, ◌%◌, ◌^◌, ◌<◌, ◌≤◌, Bool, true, false, ltb, List, length, get_or, set, sym, refl, ap, ◌∙◌, subst, arith, get_or-set_same, le-ltb, lt-ltb}
+use Rattle.std.proofs.Common.{◌≡◌, ℕ, zero, suc, ◌+◌, ◌*◌, ◌/◌, ◌%◌, ◌^◌, ◌<◌, ◌≤◌, Bool, true, false, List, length, get_or, sym, refl, ap, ◌∙◌, subst, arith, get_or-set_same, le-ltb, lt-ltb}
 use mathlib.Core.Path.{fun_ext}
 use Rattle.machine.specs.Word.{pick}
 use Rattle.machine.specs.Parcel.{i_of, j_of, k_of, jk_of}
@@ -9,8 +9,8 @@ use Rattle.machine.specs.Act.{Instr, reads_words, writes_words, read_b, store_b,
 use Rattle.machine.specs.Codes.{holds_one, code_of}
 use Rattle.machine.specs.Work.{outside}
 use Rattle.machine.specs.Layout.{registers_of, frame_of}
-use Rattle.access.specs.Window.{Spot, spot_of, load_in}
-use Rattle.access.specs.Executed.{block_count, block_by, told, Puts, ended_by, noted, cut_to, ring_at}
+use Rattle.access.specs.Window.{Spot, load_in}
+use Rattle.access.specs.Executed.{block_count, block_by, Puts, ended_by, noted, cut_to, ring_at}
 use Rattle.access.proofs.Leaf.{act_at, one}
 use Rattle.access.proofs.Places.{p-puts, to-elements, el-at}
 use Rattle.access.proofs.Rings.{bs-of, ts-of, ring-b, ring-t, ring-fill}

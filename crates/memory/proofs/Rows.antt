@@ -4,7 +4,7 @@ use Rattle.machine.specs.Word.{pick}
 use Rattle.machine.specs.State.{fill}
 use Rattle.access.specs.Window.{Spot, at_place, beyond, is_beyond, load_in, store_in, place_in}
 use Rattle.access.specs.Executed.{cut_to, ring_at}
-use Rattle.memory.specs.Moves.{Held, row_in, any_beyond, stores_at, straight_of}
+use Rattle.memory.specs.Moves.{row_in, any_beyond, stores_at, straight_of}
 
 -- an address whose low 22 bits are w: in a window, and beyond it
 module _ (first words n w : ℕ) (low : w ≡ n % 2 ^ 22) where

@@ -1,9 +1,8 @@
 -- 10h to 13h: from the word that was moved to what the definitions say of the code. Assumes nothing.
-use Rattle.std.proofs.Common.{◌≡◌, ℕ, zero, suc, ◌+◌, ◌*◌, ◌/◌, ◌%◌, ◌^◌, ◌<◌, Bool, List, length, set, sym, refl, ◌∙◌, arith, get_or-set_same}
+use Rattle.std.proofs.Common.{◌≡◌, ℕ, zero, suc, ◌+◌, ◌*◌, ◌/◌, ◌%◌, ◌^◌, ◌<◌, Bool, List, length, refl, ◌∙◌, arith, get_or-set_same}
 use Rattle.machine.specs.declared.Reach.{Reach}
 use Rattle.machine.specs.declared.Fetched.TheVariants.{Parcel}
 use Rattle.machine.specs.declared.Work.{Work}
-use Rattle.machine.specs.declared.Work.TheVariants.{StrayedTwo}
 use Rattle.machine.specs.Parcel.{h_of, i_of, jkm_of, onward}
 use Rattle.machine.specs.State.{Registers, user, ah}
 use Rattle.machine.specs.Memory.{data_field, place_of, load, store, stores, first_outside, fetch_of}
@@ -12,13 +11,13 @@ use Rattle.machine.specs.Codes.{Code, holds_two, every_h, nth, code_of}
 use Rattle.machine.specs.Work.{outside}
 use Rattle.machine.specs.Layout.{registers_of, frame_of}
 use Rattle.access.specs.Window.{Reaches, spot_of, is_beyond, load_in, store_in, place_in}
-use Rattle.access.specs.Executed.{told, Executes, Puts, Ends}
+use Rattle.access.specs.Executed.{Executes, Puts, Ends}
 use Rattle.access.proofs.Places.{p-puts}
 use Rattle.access.proofs.Leaf.{two}
 use Rattle.memory.specs.declared.File.{File}
 use Rattle.memory.specs.declared.File.TheVariants.{A, S}
 use Rattle.memory.specs.Moves.{any_beyond, load_code, store_code, register_of, to_register}
-use Rattle.memory.proofs.Fields.{reached, place-of, place-low, load-spot, store-spot, is_stray, any-outside, Tells, tells, reads, writes}
+use Rattle.memory.proofs.Fields.{reached, place-of, place-low, load-spot, store-spot, any-outside, Tells, tells, reads, writes}
 
 -- the eight codes of a group are one
 every-same : (c : Code) (h : ℕ) → h < 8 → nth (every_h c) h ≡ c

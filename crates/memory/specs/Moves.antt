@@ -2,7 +2,6 @@
 use Rattle.std.specs.Prelude.{◌≡◌, ℕ, zero, suc, ◌+◌, ◌-◌, ◌*◌, ◌%◌, ◌^◌, ◌<◌, ◌≤◌, Bool, false, ◌&&◌, ◌||◌, List, ◌==◌, nat_le, slice_index}
 use Rattle.machine.specs.Word.{pick}
 use Rattle.machine.specs.State.{Registers, Frame, ai, si, Put, to_a, to_s}
-use Rattle.machine.specs.Layout.{registers_of, frame_of}
 use Rattle.access.specs.Window.{extent, Inside, Spot, is_beyond, load_in, store_in, place_in}
 use Rattle.access.specs.Executed.{Executes, ended_by, noted, cut_to, ring_at}
 use Rattle.memory.specs.declared.File.{File}

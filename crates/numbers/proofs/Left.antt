@@ -3,9 +3,7 @@ use Prim.Native.Nat.{ℕ}
 use mathlib.Core.Path.{◌≡◌, sym, ◌∙◌, ap}
 use mathlib.Core.List.{List, [], ◌∷◌}
 use lib.ListN.{get_or}
-use lib.Dec.{eqb}
 use borrow.Author.Tests.{ne_eqb}
-use Rattle.machine.specs.Word.{pick}
 use Rattle.machine.specs.State.{State}
 use Rattle.numbers.specs.Left.{left, refused, three_of, unless_refused}
 

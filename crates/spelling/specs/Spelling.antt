@@ -1,6 +1,6 @@
 -- How each instruction is spelled in CAL: one table, in the manual's order. At each row stand its code, then the parcels and the
 -- line of an example. Assumes nothing.
-use Rattle.std.specs.Prelude.{ℕ, ◌%◌, List, [], Bool, true, false, ◌&&◌, get_or, eqb, ltb}
+use Rattle.std.specs.Prelude.{ℕ, List, [], Bool, true, false, ◌&&◌, eqb, ltb}
 use Rattle.machine.specs.Word.{pick}
 use Rattle.machine.specs.Parcel.{h_of, i_of, j_of, k_of, jk_of}
 use Rattle.machine.specs.Codes.{Code, holds_none, holds_one, holds_two, code_of}

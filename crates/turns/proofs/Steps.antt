@@ -24,7 +24,6 @@ use Rattle.machine.specs.State.{State, Registers, Frame, Shared, sharing, addr, 
 use Rattle.machine.specs.Work.{Done, done, work_of}
 use Rattle.machine.specs.Exchange.{operand_range}
 use Rattle.machine.specs.Step.{out, in_user_mode, exchange, ranged, finish, finish_of, step_of, counted}
-use Rattle.machine.specs.Run.{turned}
 use Rattle.machine.specs.Layout.{registers_of, frame_of, state_of}
 use Rattle.access.specs.Executed.{told}
 use Rattle.access.proofs.Places.{p-puts}

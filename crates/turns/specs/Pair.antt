@@ -7,7 +7,7 @@ use Rattle.machine.specs.declared.Work.{Work}
 use Rattle.machine.specs.declared.Last.{Last}
 use Rattle.machine.specs.declared.Last.TheVariants.{Was}
 use Rattle.machine.specs.Word.{pick}
-use Rattle.machine.specs.State.{State, Shared, sharing}
+use Rattle.machine.specs.State.{Shared, sharing}
 use Rattle.machine.specs.Step.{Out, goes_on, counted}
 use Rattle.machine.specs.Run.{Half, half_with, half_after, PairEnded, pair_ended, pair_of}
 use Rattle.machine.specs.Layout.{part, state_of, first_of, second_of}

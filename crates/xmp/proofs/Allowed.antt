@@ -1,12 +1,12 @@
 -- What a call that is not refused may rely on; a step as a turn of one; a processor that was zeroed. Assumes nothing.
-use Prim.Native.Nat.{ℕ, zero, suc, ◌+◌, ◌^◌, ◌<◌, ◌≤◌}
+use Prim.Native.Nat.{ℕ, ◌+◌, ◌^◌, ◌<◌, ◌≤◌}
 use mathlib.Core.Path.{◌≡◌, refl, sym, ◌∙◌, ap}
-use mathlib.Core.Bool.{Bool, true, false, not, ◌&&◌, and-eq-true_iff}
-use mathlib.Core.List.{List, [], ◌∷◌}
+use mathlib.Core.Bool.{Bool, true, false, not, and-eq-true_iff}
+use mathlib.Core.List.{List, ◌∷◌}
 use native.Mathlib.Omega.{arith}
 use lib.ListN.{length, get_or, set, replicate, drop, length-drop}
 use lib.Seq.{length-take-le}
-use lib.Dec.{eqb, ltb, leb}
+use lib.Dec.{eqb, leb}
 use borrow.Author.Tests.{ltb-false, leb-true, eqb-true}
 use Rattle.machine.specs.declared.Answer.{Answer}
 use Rattle.machine.specs.declared.Answer.TheVariants.{Stepped, Exchanged, NotHeld, MonitorFetch}
@@ -16,16 +16,16 @@ use Rattle.machine.specs.declared.Reply.TheVariants.{Answered}
 use Rattle.machine.specs.declared.Stray.{Stray}
 use Rattle.machine.specs.declared.Stray.TheVariants.{Clean, First}
 use Rattle.machine.specs.Word.{pick}
-use Rattle.machine.specs.State.{State, Shared, sharing}
+use Rattle.machine.specs.State.{State, Shared}
 use Rattle.machine.specs.Memory.{or_else}
 use Rattle.machine.specs.Exchange.{loaded}
-use Rattle.machine.specs.Step.{Out, step_of, goes_on, counted}
-use Rattle.machine.specs.Run.{zeros, blank_registers, blank_frame, start_of, Turned, turned, turn_of}
-use Rattle.machine.specs.Refusal.{Check, check, first_due, memory_fits, state_fits, below, start_refusal, step_refusal, run_refusal, pair_refusal}
-use Rattle.machine.specs.Call.{Replied, replied}
+use Rattle.machine.specs.Step.{step_of, goes_on, counted}
+use Rattle.machine.specs.Run.{zeros, start_of, Turned, turned, turn_of}
+use Rattle.machine.specs.Refusal.{Check, check, first_due, memory_fits, state_fits, start_refusal, step_refusal, run_refusal, pair_refusal}
+use Rattle.machine.specs.Call.{replied}
 use Rattle.machine.specs.Layout.{part, registers_of, frame_of, state_of, first_of, second_of}
 use Rattle.access.proofs.Places.{part_at}
-use Rattle.access.proofs.Fits.{Fit, fit}
+use Rattle.access.proofs.Fits.{fit}
 use Rattle.turns.specs.Turn.{Fitting}
 use Rattle.turns.specs.Pair.{Both}
 use Rattle.xmp.specs.Reply.{reply_of}

@@ -3,7 +3,6 @@ use native.Mathlib.Omega.{arith}
 use Rattle.spelling.specs.Assembling.{room_assembled}
 use Rattle.assembly.specs.Reads.{Checks}
 use Rattle.assembly.proofs.Laws.{assembled-bad, assembled-full, assembled-fits, assembled-all}
-use borrow.Author.Rules.{rules}
 use Rattle.assembly.proofs.assemble.Goals as goal
 
 pub overflow_add-result : goal.overflow_add-result

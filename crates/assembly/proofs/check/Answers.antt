@@ -1,13 +1,12 @@
-use mathlib.Core.Path.{◌≡◌, refl, ap, ◌∙◌, subst}
-use mathlib.Core.List.{List, [], ◌++◌}
-use Prim.Native.Nat.{ℕ, ◌+◌, ◌-◌, ◌≤◌}
+use mathlib.Core.Path.{refl, ap, ◌∙◌, subst}
+use mathlib.Core.List.{[], ◌++◌}
+use Prim.Native.Nat.{ℕ, ◌+◌}
 use native.Mathlib.Omega.{arith}
 use lib.ListN.{length, drop, length-append}
-use borrow.Author.Rules.{rules}
 use Rattle.spelling.specs.Assembling.{read_line}
 use Rattle.assembly.specs.Reads.{ReadsAs}
 use Rattle.assembly.specs.declared.Read.{Read}
-use Rattle.assembly.proofs.Laws.{Passed, passed_none, passed-bad, passed-good, passed-all}
+use Rattle.assembly.proofs.Laws.{passed_none, passed-bad, passed-good, passed-all}
 use Rattle.assembly.proofs.check.Goals as goal
 
 pub loop-at-init : goal.loop-at-init

@@ -1,6 +1,6 @@
 use mathlib.Core.Path.{◌≡◌, refl, sym, ap, ◌∙◌}
-use Prim.Native.Nat.{ℕ, ◌+◌, ◌-◌, ◌≤◌}
-use lib.ListN.{length, get_or, take, drop, set, length-set, length-drop, replicate}
+use Prim.Native.Nat.{ℕ, ◌+◌}
+use lib.ListN.{get_or, take, drop, set, length-set, length-drop, replicate}
 use lib.Seq.{sets, length-take-le, get_or-take, get_or-drop}
 use native.Mathlib.Omega.{arith}
 use Rattle.assembly.proofs.Same.{copy-next, copy_done, sets-whole}

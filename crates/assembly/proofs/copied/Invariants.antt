@@ -1,9 +1,7 @@
-use mathlib.Core.Path.{◌≡◌, refl, sym, ap, ◌∙◌}
-use Prim.Native.Nat.{ℕ, ◌+◌, ◌-◌, ◌≤◌}
-use lib.ListN.{length, get_or, take, drop, set, length-set, length-drop, replicate}
-use lib.Seq.{sets, length-take-le, get_or-take, get_or-drop}
-use native.Mathlib.Omega.{arith}
-use Rattle.assembly.proofs.Same.{copy-next, copy_done, sets-whole}
+use mathlib.Core.Path.{◌≡◌}
+use Prim.Native.Nat.{◌-◌, ◌≤◌}
+use lib.ListN.{length, take, drop, replicate}
+use lib.Seq.{sets}
 use Rattle.assembly.proofs.copied.Given as goal
 
 abbrev pub invariant-loop-i : goal.invariant-loop-i

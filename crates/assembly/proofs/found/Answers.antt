@@ -1,5 +1,4 @@
 use borrow.Author.Tests.{eq-eqb, ne_eqb, lt-ltb, le-ltb}
-use borrow.Author.Rules.{rules}
 use Rattle.assembly.proofs.found.Goals as goal
 use Rattle.assembly.proofs.found.Goals.{else-h-via-then-h+else-h-left, else-h-via-else-h}
 

@@ -5,7 +5,6 @@ use borrow.Author.Tests.{not-true, not-false}
 use lib.ListN.{drop}
 use Rattle.assembly.proofs.Guessing.{hears-one, hears-data, hears-two}
 use Rattle.assembly.proofs.Laws.{second_is}
-use borrow.Author.Rules.{rules}
 use Rattle.assembly.proofs.hear.Goals as goal
 
 pub returns-then-not-has_second : goal.returns-then-not-has_second

@@ -1,6 +1,6 @@
-use mathlib.Core.Path.{◌≡◌, sym, ap, ◌∙◌}
-use Prim.Native.Nat.{◌+◌, ◌-◌, ◌≤◌, ◌<◌}
-use lib.ListN.{length, take, drop}
+use mathlib.Core.Path.{sym, ap, ◌∙◌}
+use Prim.Native.Nat.{◌+◌, ◌<◌}
+use lib.ListN.{length, drop}
 use lib.Seq.{take_all}
 use native.Mathlib.Omega.{arith}
 use Rattle.spelling.specs.Assembling.{begins}

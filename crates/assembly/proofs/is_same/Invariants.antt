@@ -1,11 +1,7 @@
-use mathlib.Core.Path.{◌≡◌, sym, ap, ◌∙◌}
-use mathlib.Core.Logic.{⊎_elim}
-use Prim.Native.Nat.{◌+◌, ◌-◌, ◌≤◌, ◌<◌}
-use lib.ListN.{length, take, drop}
-use lib.Seq.{take_all}
-use native.Mathlib.Omega.{arith}
+use mathlib.Core.Path.{◌≡◌}
+use Prim.Native.Nat.{◌-◌, ◌≤◌}
+use lib.ListN.{take, drop}
 use Rattle.spelling.specs.Assembling.{begins}
-use Rattle.assembly.proofs.Same.{same_none, same_next, same_not}
 use Rattle.assembly.proofs.is_same.Given as goal
 
 abbrev pub invariant-loop-p : goal.invariant-loop-p

@@ -5,7 +5,6 @@ use lib.ListN.{length, drop, length-drop}
 use lib.Seq.{length-take-le}
 use Rattle.spelling.proofs.Lines.{line-most}
 use Rattle.assembly.proofs.Same.{found_it, found_none}
-use borrow.Author.Rules.{rules}
 use Rattle.assembly.proofs.line_at.Goals as goal
 
 pub put_line-len-requires : goal.put_line-len-requires

@@ -3,7 +3,6 @@ use lib.ListN.{length}
 use borrow.Author.Tests.{not-true, not-false, leb-true}
 use Rattle.spelling.specs.Listing.{list_of}
 use Rattle.assembly.proofs.Laws.{listed-not, listed-all}
-use borrow.Author.Rules.{rules}
 use Rattle.assembly.proofs.list.Goals as goal
 
 pub returns-then-not-is_room : goal.returns-then-not-is_room

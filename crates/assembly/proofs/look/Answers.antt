@@ -5,7 +5,6 @@ use native.Mathlib.Omega.{arith}
 use lib.ListN.{drop, length-drop}
 use Rattle.spelling.specs.Candidate.{guess_of, packed}
 use Rattle.assembly.proofs.Guessing.{guess-padded, padded}
-use borrow.Author.Rules.{rules}
 use Rattle.assembly.proofs.look.Goals as goal
 
 pub returns : goal.returns

@@ -6,7 +6,6 @@ use lib.ListN.{length}
 use Rattle.text.proofs.Writing.{wrote_as}
 use Rattle.spelling.proofs.Lines.{data-length}
 use Rattle.assembly.proofs.Laws.{second_is, next_one, next_last, next-two}
-use borrow.Author.Rules.{rules}
 use Rattle.assembly.proofs.put_next.Goals as goal
 
 pub overflow_cast-x : goal.overflow_cast-x

@@ -1,7 +1,6 @@
 use native.Mathlib.Omega.{arith}
 use lib.ListN.{length-set}
 use Rattle.assembly.proofs.Laws.{put_one, put_two, parcels-least, parcels-two}
-use borrow.Author.Rules.{rules}
 use Rattle.assembly.proofs.put_parcels.Goals as goal
 
 pub bounds-room-n : goal.bounds-room-n

@@ -5,7 +5,6 @@ use Rattle.spelling.specs.Assembling.{read_line}
 use Rattle.assembly.specs.Reads.{ReadsAs}
 use Rattle.assembly.specs.declared.Read.{Read}
 use Rattle.assembly.proofs.Guessing.{heard-here, heard-padded}
-use borrow.Author.Rules.{rules}
 use Rattle.assembly.proofs.read_line.Goals as goal
 
 pub returns-then-left-ge32 : goal.returns-then-left-ge32

@@ -1,11 +1,10 @@
-use mathlib.Core.Path.{◌≡◌, refl, sym, ap, ◌∙◌}
-use mathlib.Core.List.{List, [], ◌++◌}
-use Prim.Native.Nat.{ℕ, ◌+◌, ◌-◌}
+use mathlib.Core.Path.{refl, sym, ap, ◌∙◌}
+use mathlib.Core.List.{[], ◌++◌}
+use Prim.Native.Nat.{ℕ, ◌+◌}
 use lib.ListN.{length, length-append}
-use lib.Seq.{sets}
 use native.Mathlib.Omega.{arith}
 use Rattle.assembly.specs.Reads.{unpacked}
-use Rattle.assembly.proofs.Laws.{Passed, passed_none, passed-all, store-next, sets_more, stored-all}
+use Rattle.assembly.proofs.Laws.{passed_none, passed-all, store-next, sets_more, stored-all}
 use Rattle.assembly.proofs.store.Goals as goal
 
 pub loop-at-init : goal.loop-at-init

@@ -1,11 +1,9 @@
-use mathlib.Core.Path.{◌≡◌, refl, sym, ap, ◌∙◌}
-use mathlib.Core.List.{List, [], ◌++◌}
-use Prim.Native.Nat.{ℕ, ◌+◌, ◌-◌}
-use lib.ListN.{length, length-append}
+use mathlib.Core.Path.{◌≡◌}
+use mathlib.Core.List.{List}
+use Prim.Native.Nat.{ℕ, ◌-◌}
+use lib.ListN.{length}
 use lib.Seq.{sets}
-use native.Mathlib.Omega.{arith}
-use Rattle.assembly.specs.Reads.{unpacked}
-use Rattle.assembly.proofs.Laws.{Passed, passed_none, passed-all, store-next, sets_more, stored-all}
+use Rattle.assembly.proofs.Laws.{Passed}
 use Rattle.assembly.proofs.store.Given as goal
 
 abbrev pub invariant-loop-at : goal.invariant-loop-at

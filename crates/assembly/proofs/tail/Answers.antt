@@ -1,6 +1,6 @@
 use mathlib.Core.Path.{◌≡◌, refl, sym, ap, ◌∙◌}
-use Prim.Native.Nat.{ℕ, ◌+◌, ◌-◌, ◌≤◌}
-use lib.ListN.{length, get_or, drop, set, length-set, length-drop, replicate}
+use Prim.Native.Nat.{ℕ, ◌+◌}
+use lib.ListN.{get_or, drop, set, length-set, length-drop}
 use lib.Seq.{sets, get_or-drop}
 use native.Mathlib.Omega.{arith}
 use Rattle.assembly.proofs.Same.{copy-next, copy_done}

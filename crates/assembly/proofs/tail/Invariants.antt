@@ -1,9 +1,7 @@
-use mathlib.Core.Path.{◌≡◌, refl, sym, ap, ◌∙◌}
-use Prim.Native.Nat.{ℕ, ◌+◌, ◌-◌, ◌≤◌}
-use lib.ListN.{length, get_or, drop, set, length-set, length-drop, replicate}
-use lib.Seq.{sets, get_or-drop}
-use native.Mathlib.Omega.{arith}
-use Rattle.assembly.proofs.Same.{copy-next, copy_done}
+use mathlib.Core.Path.{◌≡◌}
+use Prim.Native.Nat.{◌-◌, ◌≤◌}
+use lib.ListN.{length, drop, replicate}
+use lib.Seq.{sets}
 use Rattle.assembly.proofs.tail.Given as goal
 
 abbrev pub invariant-loop-i : goal.invariant-loop-i

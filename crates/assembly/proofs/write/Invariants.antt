@@ -1,12 +1,9 @@
-use mathlib.Core.Path.{◌≡◌, refl, ◌∙◌}
+use mathlib.Core.Path.{◌≡◌}
 use mathlib.Core.List.{List}
 use Prim.Native.Nat.{ℕ, ◌+◌, ◌-◌, ◌≤◌}
 use lib.ListN.{length, drop}
-use native.Mathlib.Omega.{arith}
 use Rattle.text.specs.Report.{Wrote}
-use Rattle.text.proofs.Writing.{then, wrote_as, wrote_none}
 use Rattle.spelling.specs.Listing.{list_of}
-use Rattle.assembly.proofs.Laws.{list-from, lines_next, no_lines}
 use Rattle.assembly.proofs.write.Given as goal
 
 abbrev pub invariant-loop-at : goal.invariant-loop-at

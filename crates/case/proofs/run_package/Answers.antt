@@ -1,6 +1,5 @@
 use Rattle.machine.specs.Layout.{state_of}
 use Rattle.case.proofs.Laws.{package-run}
-use borrow.Author.Rules.{rules}
 use Rattle.case.proofs.run_package.Goals as goal
 
 pub returns : goal.returns

@@ -1,7 +1,6 @@
 use mathlib.Core.Path.{sym, ◌∙◌}
 use native.Mathlib.Omega.{arith}
 use Rattle.desk.proofs.Texts.{cal-long, cal-holds, cal-bad, cal-full, cal-room, refused-room, gives-some, gives-refusal}
-use borrow.Author.Rules.{rules}
 use Rattle.desk.proofs.assemble.Goals as goal
 
 pub returns-then-text-gt-LONGEST : goal.returns-then-text-gt-LONGEST

@@ -3,7 +3,6 @@ use native.Mathlib.Omega.{arith}
 use Rattle.octal.specs.Lines.{parcels_text}
 use Rattle.desk.specs.Desk.{cal_of}
 use Rattle.desk.proofs.Texts.{answer-some, answer-refusal, held}
-use borrow.Author.Rules.{rules}
 use Rattle.desk.proofs.cal.Goals as goal
 
 pub slice_bounds-put_parcels-end : goal.slice_bounds-put_parcels-end

@@ -2,7 +2,6 @@ use mathlib.Core.Path.{sym}
 use native.Mathlib.Omega.{arith}
 use Rattle.desk.specs.Desk.{sheet_words, cal_words_of}
 use Rattle.desk.proofs.Texts.{answer-some, answer-refusal, held}
-use borrow.Author.Rules.{rules}
 use Rattle.desk.proofs.cal_words.Goals as goal
 
 pub slice_bounds-put_sheet-end : goal.slice_bounds-put_sheet-end

@@ -3,7 +3,6 @@ use native.Mathlib.Omega.{arith}
 use lib.ListN.{length}
 use Rattle.desk.specs.Desk.{listed_in, listing_of}
 use Rattle.desk.proofs.Texts.{listing-some, answer-refusal, held}
-use borrow.Author.Rules.{rules}
 use Rattle.desk.proofs.listing.Goals as goal
 
 pub slice_bounds-put_listing-end : goal.slice_bounds-put_listing-end

@@ -1,13 +1,7 @@
-use mathlib.Core.Path.{◌≡◌, refl, ◌∙◌}
-use mathlib.Core.List.{List}
-use Prim.Native.Nat.{ℕ, ◌+◌, ◌-◌, ◌≤◌}
+use mathlib.Core.Path.{refl, ◌∙◌}
 use native.Mathlib.Nat.{add-zero, sub-zero}
 use native.Mathlib.Omega.{arith}
-use lib.ListN.{length}
-use Rattle.text.specs.Report.{Wrote}
-use Rattle.desk.specs.Desk.{blanks}
 use Rattle.desk.proofs.Columns.{blanks-next, blanks-done}
-use borrow.Author.Rules.{rules}
 use Rattle.desk.proofs.put_blanks.Goals as goal
 
 pub loop-i-init : goal.loop-i-init

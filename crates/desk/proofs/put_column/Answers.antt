@@ -5,7 +5,6 @@ use lib.ListN.{length}
 use Rattle.text.specs.Digits.{shown}
 use Rattle.text.proofs.Writing.{then, wrote_as}
 use Rattle.desk.proofs.Columns.{address-most, column-is}
-use borrow.Author.Rules.{rules}
 use Rattle.desk.proofs.put_column.Goals as goal
 
 pub overflow_sub-n : goal.overflow_sub-n

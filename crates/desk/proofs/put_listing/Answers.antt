@@ -2,7 +2,6 @@ use mathlib.Core.Path.{sym, ◌∙◌}
 use native.Mathlib.Omega.{arith}
 use Rattle.text.proofs.Writing.{wrote_as}
 use Rattle.desk.proofs.Texts.{listed-fits, listed-full}
-use borrow.Author.Rules.{rules}
 use Rattle.desk.proofs.put_listing.Goals as goal
 
 pub returns-in-Bytes : goal.returns-in-Bytes

@@ -1,6 +1,5 @@
 use mathlib.Core.Path.{refl}
 use Rattle.text.proofs.Writing.{wrote-digits}
-use borrow.Author.Rules.{rules}
 use Rattle.desk.proofs.put_parcel.Goals as goal
 
 pub returns : goal.returns

@@ -1,7 +1,6 @@
 use native.Mathlib.Omega.{arith}
 use Rattle.text.proofs.Writing.{wrote_as}
 use Rattle.desk.proofs.Texts.{sheet-fits, sheet-full}
-use borrow.Author.Rules.{rules}
 use Rattle.desk.proofs.put_sheet.Goals as goal
 
 pub returns-then-address-gt4096 : goal.returns-then-address-gt4096

@@ -3,7 +3,6 @@ use native.Mathlib.Omega.{arith}
 use borrow.Author.Tests.{not-true, not-false}
 use Rattle.text.proofs.Writing.{then, wrote_as, wrote_none}
 use Rattle.desk.proofs.Columns.{second_is, wide-none, wide-one, wide-data, wide-two, none_in, one_in, last-in, two_in}
-use borrow.Author.Rules.{rules}
 use Rattle.desk.proofs.wide_line.Goals as goal
 
 pub returns-then-parcels-lt1 : goal.returns-then-parcels-lt1

@@ -1,6 +1,5 @@
 use native.Mathlib.Omega.{arith}
 use mathlib.Core.Path.{refl}
-use borrow.Author.Rules.{rules}
 use Rattle.dispatch.proofs.Arms.{alone, arm-says, own, none_in}
 use Rattle.dispatch.proofs.from_000.Goals as goal
 

@@ -1,6 +1,4 @@
-use native.Mathlib.Omega.{arith}
 use mathlib.Core.Path.{refl}
-use borrow.Author.Rules.{rules}
 use Rattle.memory.proofs.Fields.{reached}
 use Rattle.dispatch.proofs.Arms.{alone, past-020, moved_ends}
 use Rattle.dispatch.proofs.from_020.Goals as goal

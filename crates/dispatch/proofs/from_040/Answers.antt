@@ -1,6 +1,5 @@
 use native.Mathlib.Omega.{arith}
 use mathlib.Core.Path.{refl}
-use borrow.Author.Rules.{rules}
 use Rattle.dispatch.proofs.Arms.{alone, none_in}
 use Rattle.dispatch.proofs.from_040.Goals as goal
 

@@ -1,6 +1,4 @@
-use native.Mathlib.Omega.{arith}
 use mathlib.Core.Path.{refl}
-use borrow.Author.Rules.{rules}
 use Rattle.dispatch.proofs.Arms.{alone, past-060}
 use Rattle.dispatch.proofs.from_060.Goals as goal
 

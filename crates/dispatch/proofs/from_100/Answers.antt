@@ -1,6 +1,5 @@
 use mathlib.Core.Path.{refl}
 use mathlib.Core.Logic.{inl, inr}
-use borrow.Author.Rules.{rules}
 use Rattle.dispatch.proofs.Arms.{arm-says, own, group, vector-of, no_arm}
 use Rattle.dispatch.proofs.from_100.Goals as goal
 

@@ -1,9 +1,7 @@
 use borrow.Author.Tests.{ne_eqb}
 use Rattle.machine.specs.Codes.{code_of}
-use Rattle.memory.proofs.Fields.{reached}
 use Rattle.access.proofs.Leaf.{not-held}
 use Rattle.dispatch.proofs.Arms.{moved_ends}
-use borrow.Author.Rules.{rules}
 use Rattle.dispatch.proofs.read_v.Goals as goal
 
 pub returns-then-j-ne0 : goal.returns-then-j-ne0

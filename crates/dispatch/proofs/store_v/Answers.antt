@@ -2,7 +2,6 @@ use borrow.Author.Tests.{ne_eqb}
 use Rattle.machine.specs.Codes.{code_of}
 use Rattle.access.proofs.Leaf.{not-held}
 use Rattle.dispatch.proofs.Arms.{moved_ends}
-use borrow.Author.Rules.{rules}
 use Rattle.dispatch.proofs.store_v.Goals as goal
 
 pub returns-then-i-ne0 : goal.returns-then-i-ne0

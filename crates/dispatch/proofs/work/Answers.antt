@@ -2,7 +2,6 @@ use mathlib.Core.Path.{sym, ◌∙◌}
 use native.Mathlib.Omega.{arith}
 use Rattle.access.proofs.Windows.{code_inside, fetched, parcel-narrow}
 use Rattle.dispatch.proofs.Arms.{works-lost, works-done}
-use borrow.Author.Rules.{rules}
 use Rattle.dispatch.proofs.work.Goals as goal
 
 pub fetch-requires : goal.fetch-requires

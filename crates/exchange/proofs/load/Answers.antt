@@ -1,8 +1,6 @@
-use Prim.Native.Nat.{◌-◌, ◌≤◌}
-use mathlib.Core.Path.{◌≡◌, refl, ap}
-use mathlib.Core.List.{◌++◌}
+use mathlib.Core.Path.{refl, ap}
 use native.Mathlib.Omega.{arith}
-use lib.ListN.{length, get_or, take, drop, length-set}
+use lib.ListN.{length, get_or, length-set}
 use Rattle.exchange.proofs.Laws.{copied, low}
 use borrow.Author.Rules.{rules}
 use Rattle.exchange.proofs.load.Goals as goal

@@ -1,10 +1,7 @@
 use Prim.Native.Nat.{◌-◌, ◌≤◌}
-use mathlib.Core.Path.{◌≡◌, refl, ap}
+use mathlib.Core.Path.{◌≡◌}
 use mathlib.Core.List.{◌++◌}
-use native.Mathlib.Omega.{arith}
-use lib.ListN.{length, get_or, take, drop, length-set}
-use Rattle.exchange.proofs.Laws.{copied, low}
-use borrow.Author.Rules.{rules}
+use lib.ListN.{length, take, drop}
 use Rattle.exchange.proofs.load.Given as goal
 
 abbrev pub invariant-loop-n : goal.invariant-loop-n

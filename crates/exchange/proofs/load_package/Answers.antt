@@ -1,5 +1,4 @@
 use Rattle.exchange.proofs.Laws.{loads}
-use borrow.Author.Rules.{rules}
 use Rattle.exchange.proofs.load_package.Goals as goal
 
 pub returns : goal.returns

@@ -1,6 +1,5 @@
 use mathlib.Core.Path.{refl, ap₂}
 use mathlib.Core.List.{◌∷◌}
-use borrow.Author.Rules.{rules}
 use Rattle.exchange.proofs.low_words.Goals as goal
 
 pub returns : goal.returns

@@ -3,7 +3,6 @@ use mathlib.Core.List.{◌∷◌}
 use native.Mathlib.Omega.{arith}
 use Rattle.machine.specs.Layout.{registers_of, frame_of}
 use Rattle.access.proofs.Places.{a_at, s-at}
-use borrow.Author.Rules.{rules}
 use Rattle.exchange.proofs.saved_words.Goals as goal
 
 pub returns : goal.returns

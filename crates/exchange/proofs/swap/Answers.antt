@@ -1,5 +1,4 @@
 use Rattle.exchange.proofs.Laws.{narrow, swaps}
-use borrow.Author.Rules.{rules}
 use Rattle.exchange.proofs.swap.Goals as goal
 
 pub saved_words-old-requires : goal.saved_words-old-requires

@@ -1,6 +1,5 @@
 use mathlib.Core.Path.{sym, ◌∙◌}
 use Rattle.export.proofs.Cal.{assemble-leaves}
-use borrow.Author.Rules.{rules}
 use Rattle.export.proofs.pulxarrid_assemble.Goals as goal
 
 pub returns-in-Parcels : goal.returns-in-Parcels

@@ -1,6 +1,5 @@
 use mathlib.Core.Path.{sym, ◌∙◌}
 use Rattle.export.proofs.Cal.{list-leaves}
-use borrow.Author.Rules.{rules}
 use Rattle.export.proofs.pulxarrid_list.Goals as goal
 
 pub returns-in-Bytes : goal.returns-in-Bytes

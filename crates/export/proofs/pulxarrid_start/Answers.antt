@@ -1,6 +1,5 @@
 use mathlib.Core.Path.{ap}
 use Rattle.numbers.specs.Left.{after_start}
-use borrow.Author.Rules.{rules}
 use Rattle.export.proofs.pulxarrid_start.Goals as goal
 
 pub returns : goal.returns

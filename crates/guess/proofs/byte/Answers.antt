@@ -3,7 +3,6 @@ use Prim.Native.Nat.{◌+◌}
 use native.Mathlib.Omega.{arith}
 use lib.Seq.{get_or-drop}
 use Rattle.guess.proofs.Laws.{default_free}
-use borrow.Author.Rules.{rules}
 use Rattle.guess.proofs.byte.Goals as goal
 
 pub returns : goal.returns

@@ -1,6 +1,5 @@
 use native.Mathlib.Omega.{arith}
 use borrow.Author.Tests.{ne_eqb}
-use borrow.Author.Rules.{rules}
 use Rattle.guess.proofs.digit.Goals as goal
 
 pub returns-then-p-eq0 : goal.returns-then-p-eq0

@@ -1,7 +1,6 @@
 use native.Mathlib.Omega.{arith}
 use borrow.Author.Tests.{ne_eqb}
 use Rattle.spelling.specs.Candidate.{digit_row}
-use borrow.Author.Rules.{rules}
 use Rattle.guess.proofs.digit_row.Goals as goal
 
 pub returns-then-byte-eq32 : goal.returns-then-byte-eq32

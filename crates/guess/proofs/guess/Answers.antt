@@ -1,5 +1,4 @@
 use Rattle.spelling.specs.Candidate.{guess_by, guess_of}
-use borrow.Author.Rules.{rules}
 use Rattle.guess.proofs.guess.Goals as goal
 
 pub returns : goal.returns

@@ -3,7 +3,6 @@ use native.Mathlib.Omega.{arith}
 use borrow.Author.Tests.{ne_eqb}
 use Rattle.spelling.specs.Candidate.{guess_with}
 use Rattle.guess.proofs.Laws.{base-small, place-small, plan-read}
-use borrow.Author.Rules.{rules}
 use Rattle.guess.proofs.guess_with.Goals as goal
 
 pub overflow_cast-plans : goal.overflow_cast-plans

@@ -1,7 +1,6 @@
 use native.Mathlib.Omega.{arith}
 use borrow.Author.Tests.{ne_eqb}
 use Rattle.spelling.specs.Candidate.{told}
-use borrow.Author.Rules.{rules}
 use Rattle.guess.proofs.line_ss.Goals as goal
 
 pub returns-in-38 : goal.returns-in-38

@@ -1,12 +1,9 @@
 use mathlib.Core.Path.{◌≡◌, refl, ◌∙◌}
 use mathlib.Core.Bool.{false}
-use Prim.Native.Nat.{◌-◌, ◌^◌, ◌≤◌, ◌<◌}
 use native.Mathlib.Omega.{arith}
-use lib.ListN.{drop}
 use borrow.Author.Tests.{leb-true, leb-false}
-use Rattle.spelling.specs.Candidate.{bytes_of, is_octal, number_from, number_at}
+use Rattle.spelling.specs.Candidate.{is_octal, number_at}
 use Rattle.guess.proofs.Laws.{octal, below-octal, above-octal, number_more, number-stops, number-full}
-use borrow.Author.Rules.{rules}
 use Rattle.guess.proofs.number.Goals as goal
 use Rattle.guess.proofs.number.Goals.{then-b-lt48-via-then-b-lt48, then-b-lt48-via-else-b-lt48+then-b-ge56}
 

@@ -1,12 +1,7 @@
-use mathlib.Core.Path.{◌≡◌, refl, ◌∙◌}
-use mathlib.Core.Logic.{⊎_elim}
+use mathlib.Core.Path.{◌≡◌}
 use Prim.Native.Nat.{◌-◌, ◌^◌, ◌≤◌, ◌<◌}
-use native.Mathlib.Omega.{arith}
 use lib.ListN.{drop}
-use borrow.Author.Tests.{leb-true, leb-false}
 use Rattle.spelling.specs.Candidate.{bytes_of, number_from, number_at}
-use Rattle.guess.proofs.Laws.{octal, below-octal, above-octal, number_more, number-stops, number-full}
-use borrow.Author.Rules.{rules}
 use Rattle.guess.proofs.number.Given as goal
 
 abbrev pub invariant-loop-p : goal.invariant-loop-p

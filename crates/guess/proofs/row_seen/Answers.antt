@@ -3,7 +3,6 @@ use mathlib.Core.Bool.{false}
 use borrow.Author.Tests.{ltb-true, ltb-false}
 use Rattle.spelling.specs.Candidate.{is_octal, row_seen}
 use Rattle.guess.proofs.Laws.{octal, below-octal, above-octal}
-use borrow.Author.Rules.{rules}
 use Rattle.guess.proofs.row_seen.Goals as goal
 use Rattle.guess.proofs.row_seen.Goals.{else-b-ge48-via-then-b-ge48+else-b-lt56, else-b-ge48-via-else-b-ge48}
 

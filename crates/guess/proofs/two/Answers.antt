@@ -1,6 +1,5 @@
 use native.Mathlib.Omega.{arith}
 use Rattle.spelling.specs.Candidate.{packed}
-use borrow.Author.Rules.{rules}
 use Rattle.guess.proofs.two.Goals as goal
 
 pub returns : goal.returns

@@ -1,6 +1,5 @@
 use borrow.Author.Tests.{ne_eqb}
 use Rattle.spelling.specs.Candidate.{with_number}
-use borrow.Author.Rules.{rules}
 use Rattle.guess.proofs.with_number.Goals as goal
 
 pub returns-in-1 : goal.returns-in-1

@@ -1,6 +1,5 @@
 use native.Mathlib.Omega.{arith}
 use Rattle.line.proofs.Laws.{code-entry}
-use borrow.Author.Rules.{rules}
 use Rattle.line.proofs.code_at.Goals as goal
 
 pub overflow_cast-result : goal.overflow_cast-result

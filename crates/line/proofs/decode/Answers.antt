@@ -1,6 +1,5 @@
 use borrow.Author.Tests.{eq-eqb, ne_eqb}
 use Rattle.spelling.specs.Rows.{with_codes, instruction_by}
-use borrow.Author.Rules.{rules}
 use Rattle.line.proofs.decode.Goals as goal
 
 pub returns-then-a-eq0 : goal.returns-then-a-eq0

@@ -1,5 +1,4 @@
 use Rattle.line.proofs.Octal.{octal-glyph}
-use borrow.Author.Rules.{rules}
 use Rattle.line.proofs.digit.Goals as goal
 
 pub returns : goal.returns

@@ -2,7 +2,6 @@ use mathlib.Core.Path.{sym, ◌∙◌}
 use borrow.Author.Tests.{eq-eqb, ne_eqb}
 use Rattle.spelling.specs.Rows.{row_by}
 use Rattle.line.proofs.Laws.{row_plain}
-use borrow.Author.Rules.{rules}
 use Rattle.line.proofs.high_row.Goals as goal
 
 pub returns-in-19 : goal.returns-in-19

@@ -1,7 +1,6 @@
 use borrow.Author.Tests.{eq-eqb, ne_eqb, lt-ltb, le-ltb}
 use Rattle.spelling.specs.Rows.{row_by}
 use Rattle.line.proofs.Laws.{none_below, row_low}
-use borrow.Author.Rules.{rules}
 use Rattle.line.proofs.low_row.Goals as goal
 
 pub returns-in-0 : goal.returns-in-0

@@ -1,5 +1,4 @@
 use Rattle.line.proofs.Laws.{no_plain}
-use borrow.Author.Rules.{rules}
 use Rattle.line.proofs.plain_row.Goals as goal
 
 pub returns-in_default : goal.returns-in_default

@@ -6,7 +6,6 @@ use lib.ListN.{length, length-set}
 use Rattle.text.specs.Digits.{digits}
 use Rattle.text.proofs.Writing.{then, wrote_as, digits-length}
 use Rattle.line.proofs.Octal.{shown-one, shown-two, shown-more, long-more, placed, wrote-digit}
-use borrow.Author.Rules.{rules}
 use Rattle.line.proofs.put_few.Goals as goal
 
 pub bounds-line-at : goal.bounds-line-at

@@ -1,7 +1,6 @@
 use native.Mathlib.Omega.{arith}
 use Rattle.spelling.specs.Rows.{row_in, operands_held}
 use Rattle.line.proofs.Written.{row_inside, signs-fit, spelling, part-fits, part-next, all-parts}
-use borrow.Author.Rules.{rules}
 use Rattle.line.proofs.put_instruction.Goals as goal
 
 pub overflow_mul-row : goal.overflow_mul-row

@@ -7,7 +7,6 @@ use Rattle.spelling.specs.Rows.{instruction_by}
 use Rattle.spelling.proofs.Table.{row_small}
 use Rattle.spelling.proofs.Lines.{data-length, line-of-none, line-most}
 use Rattle.line.proofs.Written.{line-spelled, line-ready}
-use borrow.Author.Rules.{rules}
 use Rattle.line.proofs.put_line.Goals as goal
 
 pub put_data-requires : goal.put_data-requires

@@ -1,7 +1,6 @@
 use native.Mathlib.Omega.{arith}
 use Rattle.text.proofs.Writing.{then, wrote_as}
 use Rattle.line.proofs.Octal.{shown-many, long-many, placed}
-use borrow.Author.Rules.{rules}
 use Rattle.line.proofs.put_octal.Goals as goal
 
 pub put_few-end-requires : goal.put_few-end-requires

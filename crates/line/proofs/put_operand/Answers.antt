@@ -1,5 +1,4 @@
 use Rattle.spelling.specs.Words.{operand_text}
-use borrow.Author.Rules.{rules}
 use Rattle.line.proofs.put_operand.Goals as goal
 
 pub put_register-requires : goal.put_register-requires

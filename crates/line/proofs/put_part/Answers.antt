@@ -3,7 +3,6 @@ use Rattle.text.proofs.Writing.{then}
 use Rattle.spelling.specs.Words.{operand_text}
 use Rattle.spelling.specs.Rows.{signs_of}
 use Rattle.line.proofs.Written.{room-first, room-then}
-use borrow.Author.Rules.{rules}
 use Rattle.line.proofs.put_part.Goals as goal
 
 pub put_operand-end-requires : goal.put_operand-end-requires

@@ -1,7 +1,6 @@
 use native.Mathlib.Omega.{arith}
 use lib.ListN.{length-set}
 use Rattle.line.proofs.Octal.{place-long, wrote-place}
-use borrow.Author.Rules.{rules}
 use Rattle.line.proofs.put_place.Goals as goal
 
 pub put_octal-comma-requires : goal.put_octal-comma-requires

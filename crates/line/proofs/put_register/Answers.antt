@@ -3,7 +3,6 @@ use native.Mathlib.Omega.{arith}
 use lib.ListN.{length-set}
 use Rattle.text.specs.Digits.{digits}
 use Rattle.line.proofs.Octal.{register-long, wrote-register, placed, wrote-digit, wrote-two}
-use borrow.Author.Rules.{rules}
 use Rattle.line.proofs.put_register.Goals as goal
 
 pub bounds-line-at : goal.bounds-line-at

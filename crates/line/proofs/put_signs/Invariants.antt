@@ -1,8 +1,5 @@
-use mathlib.Core.Path.{refl}
 use Prim.Native.Nat.{◌-◌}
-use native.Mathlib.Omega.{arith}
-use lib.ListN.{length-set}
-use Rattle.line.proofs.Written.{ends-inside, Going, going, operand-next, room_next, newline-next, sign-next}
+use Rattle.line.proofs.Written.{Going}
 use Rattle.line.proofs.put_signs.Given as goal
 
 abbrev pub invariant-loop-at : goal.invariant-loop-at

@@ -2,7 +2,6 @@ use mathlib.Core.Path.{refl}
 use native.Mathlib.Omega.{arith}
 use lib.ListN.{length-set}
 use Rattle.line.proofs.Octal.{wrote-two}
-use borrow.Author.Rules.{rules}
 use Rattle.line.proofs.put_two_digits.Goals as goal
 
 pub bounds-line-at-2 : goal.bounds-line-at-2

@@ -1,6 +1,5 @@
 use borrow.Author.Tests.{eq-eqb, ne_eqb}
 use Rattle.spelling.specs.Rows.{row001}
-use borrow.Author.Rules.{rules}
 use Rattle.line.proofs.row_001.Goals as goal
 
 pub returns-then-j-k-eq0 : goal.returns-then-j-k-eq0

@@ -1,6 +1,5 @@
 use borrow.Author.Tests.{eq-eqb, ne_eqb, le-leb, lt-leb}
 use Rattle.spelling.specs.Rows.{row002}
-use borrow.Author.Rules.{rules}
 use Rattle.line.proofs.row_002.Goals as goal
 
 pub returns-then-j-ne0 : goal.returns-then-j-ne0

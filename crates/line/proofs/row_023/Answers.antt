@@ -1,6 +1,5 @@
 use borrow.Author.Tests.{eq-eqb, ne_eqb}
 use Rattle.spelling.specs.Rows.{row023}
-use borrow.Author.Rules.{rules}
 use Rattle.line.proofs.row_023.Goals as goal
 
 pub returns-then-k-eq0 : goal.returns-then-k-eq0

@@ -1,6 +1,5 @@
 use Rattle.spelling.specs.Rows.{row_of}
 use Rattle.spelling.proofs.Table.{row_small}
-use borrow.Author.Rules.{rules}
 use Rattle.line.proofs.row_of.Goals as goal
 
 pub returns-then-c-lt16 : goal.returns-then-c-lt16

@@ -1,6 +1,5 @@
 use borrow.Author.Tests.{lt-ltb, le-ltb}
 use Rattle.spelling.specs.Rows.{within}
-use borrow.Author.Rules.{rules}
 use Rattle.line.proofs.within.Goals as goal
 
 pub returns-then-digit-n : goal.returns-then-digit-n

@@ -1,4 +1,3 @@
-use Rattle.std.proofs.Common.{rules}
 use Rattle.memory.proofs.set.Goals as goal
 
 pub returns-in-A : goal.returns-in-A

@@ -2,7 +2,6 @@ use Rattle.access.proofs.Windows.{code_inside, second, second-narrow}
 use Rattle.access.proofs.Leaf.{lost}
 use Rattle.memory.proofs.Fields.{reached, held}
 use Rattle.memory.proofs.Single.{storing, store_code_lem, stored}
-use Rattle.std.proofs.Common.{rules}
 use Rattle.memory.proofs.store.Goals as goal
 
 pub fetch-requires : goal.fetch-requires

@@ -1,4 +1,3 @@
-use borrow.Author.Rules.{rules}
 use Rattle.numbers.proofs.of_answer.Goals as goal
 
 pub returns-in-Stepped : goal.returns-in-Stepped

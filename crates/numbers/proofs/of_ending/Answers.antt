@@ -1,4 +1,3 @@
-use borrow.Author.Rules.{rules}
 use Rattle.numbers.proofs.of_ending.Goals as goal
 
 pub returns-in-Budget : goal.returns-in-Budget

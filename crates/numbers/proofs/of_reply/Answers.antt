@@ -1,4 +1,3 @@
-use borrow.Author.Rules.{rules}
 use Rattle.numbers.proofs.of_reply.Goals as goal
 
 pub returns-in-Answered : goal.returns-in-Answered

@@ -1,4 +1,3 @@
-use borrow.Author.Rules.{rules}
 use Rattle.numbers.proofs.of_stray.Goals as goal
 
 pub returns-in-First : goal.returns-in-First

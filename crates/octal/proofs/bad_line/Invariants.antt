@@ -1,15 +1,8 @@
-use mathlib.Core.Path.{◌≡◌, sym, ◌∙◌}
+use mathlib.Core.Path.{◌≡◌}
 use Prim.Native.Nat.{◌+◌, ◌*◌, ◌-◌, ◌^◌, ◌≤◌, ◌<◌}
-use native.Mathlib.Nat.{add-zero, add_assoc}
-use native.Mathlib.Omega.{arith}
 use lib.ListN.{length}
-use lib.Dec.{lit<}
-use Rattle.text.proofs.Reading.{digit-more, digits-most}
 use Rattle.octal.specs.Numbers.{all_digits, number_from}
 use Rattle.octal.specs.Lines.{bad_line}
-use Rattle.octal.proofs.Digit.{number-next, number-done, all-next, all-not, all_done}
-use Rattle.octal.proofs.Line.{one-back, no-digits, no_end, too_short, too_large, right, line-none, line-bad, line-good}
-use borrow.Author.Rules.{rules}
 use Rattle.octal.proofs.bad_line.Given as goal
 
 abbrev pub invariant-loop-d : goal.invariant-loop-d

@@ -2,7 +2,6 @@ use mathlib.Core.Path.{sym, ◌∙◌}
 use native.Mathlib.Omega.{arith}
 use Rattle.octal.specs.Numbers.{digit_of}
 use Rattle.octal.proofs.Digit.{range}
-use borrow.Author.Rules.{rules}
 use Rattle.octal.proofs.digit_of.Goals as goal
 
 pub overflow_sub-result : goal.overflow_sub-result

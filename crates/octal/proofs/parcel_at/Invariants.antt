@@ -1,12 +1,6 @@
-use mathlib.Core.Path.{◌≡◌, sym, ◌∙◌}
+use mathlib.Core.Path.{◌≡◌}
 use Prim.Native.Nat.{◌+◌, ◌-◌, ◌^◌, ◌≤◌, ◌<◌}
-use native.Mathlib.Nat.{add-zero, add_assoc}
-use native.Mathlib.Omega.{arith}
-use lib.Dec.{lit<}
-use Rattle.text.proofs.Reading.{digits-most}
 use Rattle.octal.specs.Numbers.{number_from}
-use Rattle.octal.proofs.Digit.{number-next, number-done, digit-wide}
-use borrow.Author.Rules.{rules}
 use Rattle.octal.proofs.parcel_at.Given as goal
 
 abbrev pub invariant-loop-d : goal.invariant-loop-d

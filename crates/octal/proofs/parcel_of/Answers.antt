@@ -1,7 +1,6 @@
 use mathlib.Core.Path.{sym, refl}
 use native.Mathlib.Omega.{arith}
 use lib.ListN.{get_or-eq_default}
-use borrow.Author.Rules.{rules}
 use Rattle.octal.proofs.parcel_of.Goals as goal
 
 pub overflow_cast-result : goal.overflow_cast-result

@@ -1,6 +1,5 @@
 use native.Mathlib.Omega.{arith}
 use Rattle.text.proofs.Writing.{then}
-use borrow.Author.Rules.{rules}
 use Rattle.octal.proofs.put_line.Goals as goal
 
 pub returns : goal.returns

@@ -1,11 +1,7 @@
 use mathlib.Core.Path.{◌≡◌, refl, ◌∙◌}
-use mathlib.Core.List.{List}
-use Prim.Native.Nat.{ℕ, ◌*◌, ◌-◌, ◌≤◌}
 use native.Mathlib.Omega.{arith}
-use lib.ListN.{length, drop}
-use Rattle.text.specs.Report.{Wrote}
+use lib.ListN.{length}
 use Rattle.text.proofs.Writing.{then, wrote_none, wrote_as}
-use Rattle.octal.specs.Lines.{parcels_text}
 use Rattle.octal.proofs.Written.{parcels-next, parcels-done}
 use Rattle.octal.proofs.put_parcels.Goals as goal
 

@@ -1,12 +1,9 @@
-use mathlib.Core.Path.{◌≡◌, refl, ◌∙◌}
+use mathlib.Core.Path.{◌≡◌}
 use mathlib.Core.List.{List}
 use Prim.Native.Nat.{ℕ, ◌*◌, ◌-◌, ◌≤◌}
-use native.Mathlib.Omega.{arith}
 use lib.ListN.{length, drop}
 use Rattle.text.specs.Report.{Wrote}
-use Rattle.text.proofs.Writing.{then, wrote_none, wrote_as}
 use Rattle.octal.specs.Lines.{parcels_text}
-use Rattle.octal.proofs.Written.{parcels-next, parcels-done}
 use Rattle.octal.proofs.put_parcels.Given as goal
 
 abbrev pub invariant-loop-i : goal.invariant-loop-i

@@ -1,5 +1,4 @@
 use Rattle.octal.specs.Refusals.{refused_text}
-use borrow.Author.Rules.{rules}
 use Rattle.octal.proofs.put_refused.Goals as goal
 
 pub returns : goal.returns

@@ -1,7 +1,6 @@
 use native.Mathlib.Omega.{arith}
 use Rattle.text.proofs.Writing.{then}
 use Rattle.octal.specs.Refusals.{refused_line}
-use borrow.Author.Rules.{rules}
 use Rattle.octal.proofs.put_refused_line.Goals as goal
 
 pub returns : goal.returns

@@ -2,7 +2,6 @@ use mathlib.Core.Path.{refl}
 use native.Mathlib.Omega.{arith}
 use Rattle.text.proofs.Writing.{then, wrote-byte, wrote-digits}
 use Rattle.octal.proofs.Written.{wrote-to}
-use borrow.Author.Rules.{rules}
 use Rattle.octal.proofs.put_word.Goals as goal
 
 pub returns : goal.returns

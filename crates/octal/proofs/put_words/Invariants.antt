@@ -1,14 +1,9 @@
-use mathlib.Core.Path.{◌≡◌, refl, ◌∙◌}
+use mathlib.Core.Path.{◌≡◌}
 use mathlib.Core.List.{List}
 use Prim.Native.Nat.{ℕ, ◌+◌, ◌*◌, ◌-◌, ◌≤◌}
-use native.Mathlib.Nat.{add-zero, sub-zero}
-use native.Mathlib.Omega.{arith}
 use lib.ListN.{length}
 use Rattle.text.specs.Report.{Wrote}
-use Rattle.text.proofs.Writing.{then, wrote_none, wrote_as}
-use Rattle.octal.specs.Words.{words_from, words_text}
-use Rattle.octal.proofs.Written.{words-next, words-done}
-use borrow.Author.Rules.{rules}
+use Rattle.octal.specs.Words.{words_from}
 use Rattle.octal.proofs.put_words.Given as goal
 
 abbrev pub invariant-loop-k : goal.invariant-loop-k

@@ -3,7 +3,6 @@ use native.Mathlib.Omega.{arith}
 use borrow.Author.Tests.{le-leb, lt-leb, eq-eqb, ne_eqb}
 use Rattle.octal.specs.Lines.{octal_of}
 use Rattle.octal.proofs.Line.{parcels-length}
-use borrow.Author.Rules.{rules}
 use Rattle.octal.proofs.read.Goals as goal
 
 pub returns-then-bad-ne0 : goal.returns-then-bad-ne0

@@ -1,14 +1,10 @@
-use mathlib.Core.Path.{◌≡◌, refl, sym, ◌∙◌}
-use Prim.Native.Nat.{◌-◌, ◌^◌, ◌≤◌, ◌<◌}
+use mathlib.Core.Path.{refl, sym, ◌∙◌}
 use native.Mathlib.Nat.{sub-zero}
 use native.Mathlib.Omega.{arith}
-use lib.ListN.{length}
 use lib.Dec.{lit<}
 use Rattle.text.proofs.Reading.{digits-most}
-use Rattle.octal.specs.Numbers.{all_digits, number_from}
 use Rattle.octal.proofs.Digit.{number-next, number-done, all-next, all-not, all_done, times-base}
 use Rattle.octal.proofs.Digit.{digit-wide, no_digit, too_long, other_sign, too-high, spells}
-use borrow.Author.Rules.{rules}
 use Rattle.octal.proofs.spelled.Goals as goal
 
 pub returns-then-s-lt1 : goal.returns-then-s-lt1

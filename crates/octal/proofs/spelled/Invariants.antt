@@ -1,14 +1,7 @@
-use mathlib.Core.Path.{◌≡◌, refl, sym, ◌∙◌}
+use mathlib.Core.Path.{◌≡◌}
 use Prim.Native.Nat.{◌-◌, ◌^◌, ◌≤◌, ◌<◌}
-use native.Mathlib.Nat.{sub-zero}
-use native.Mathlib.Omega.{arith}
 use lib.ListN.{length}
-use lib.Dec.{lit<}
-use Rattle.text.proofs.Reading.{digits-most}
 use Rattle.octal.specs.Numbers.{all_digits, number_from}
-use Rattle.octal.proofs.Digit.{number-next, number-done, all-next, all-not, all_done, times-base}
-use Rattle.octal.proofs.Digit.{digit-wide, no_digit, too_long, other_sign, too-high, spells}
-use borrow.Author.Rules.{rules}
 use Rattle.octal.proofs.spelled.Given as goal
 
 abbrev pub invariant-loop-i : goal.invariant-loop-i

@@ -1,12 +1,9 @@
-use mathlib.Core.Path.{◌≡◌, refl, sym, ◌∙◌}
-use Prim.Native.Nat.{◌+◌, ◌*◌, ◌-◌, ◌≤◌, ◌<◌}
+use mathlib.Core.Path.{refl, sym, ◌∙◌}
+use Prim.Native.Nat.{◌<◌}
 use native.Mathlib.Nat.{sub-zero}
 use native.Mathlib.Omega.{arith}
 use lib.ListN.{length, length-set}
-use lib.Seq.{sets}
-use Rattle.octal.specs.Lines.{bad_line, parcels_from}
 use Rattle.octal.proofs.Line.{one-back, narrow, line-good, line-right, store-next, store-done}
-use borrow.Author.Rules.{rules}
 use Rattle.octal.proofs.store.Goals as goal
 
 pub loop-i-init : goal.loop-i-init

@@ -1,12 +1,8 @@
-use mathlib.Core.Path.{◌≡◌, refl, sym, ◌∙◌}
-use Prim.Native.Nat.{◌+◌, ◌*◌, ◌-◌, ◌≤◌, ◌<◌}
-use native.Mathlib.Nat.{sub-zero}
-use native.Mathlib.Omega.{arith}
-use lib.ListN.{length, length-set}
+use mathlib.Core.Path.{◌≡◌}
+use Prim.Native.Nat.{◌+◌, ◌*◌, ◌-◌, ◌≤◌}
+use lib.ListN.{length}
 use lib.Seq.{sets}
 use Rattle.octal.specs.Lines.{bad_line, parcels_from}
-use Rattle.octal.proofs.Line.{one-back, narrow, line-good, line-right, store-next, store-done}
-use borrow.Author.Rules.{rules}
 use Rattle.octal.proofs.store.Given as goal
 
 abbrev pub invariant-loop-i : goal.invariant-loop-i

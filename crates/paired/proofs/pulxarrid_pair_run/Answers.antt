@@ -4,7 +4,6 @@ use lib.ListN.{get_or}
 use Rattle.machine.specs.Call.{last_numbers, stray_numbers}
 use Rattle.numbers.specs.Left.{cause, element}
 use Rattle.numbers.proofs.Left.{refused-left, made-left}
-use borrow.Author.Rules.{rules}
 use Rattle.paired.proofs.pulxarrid_pair_run.Goals as goal
 
 pub returns-then-n-ne0 : goal.returns-then-n-ne0

@@ -1,9 +1,7 @@
 use Prim.Native.Nat.{◌-◌, ◌≤◌}
-use mathlib.Core.Path.{◌≡◌, refl}
+use mathlib.Core.Path.{◌≡◌}
 use lib.ListN.{length, drop}
 use Rattle.refusal.specs.Joined.{joined}
-use Rattle.refusal.proofs.Laws.{joins-on, joins-all}
-use borrow.Author.Rules.{rules}
 use Rattle.refusal.proofs.joined.Given as goal
 
 abbrev pub invariant-loop-e : goal.invariant-loop-e

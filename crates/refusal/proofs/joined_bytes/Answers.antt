@@ -1,7 +1,4 @@
-use Prim.Native.Nat.{◌-◌, ◌≤◌}
-use mathlib.Core.Path.{◌≡◌, refl}
-use lib.ListN.{length, drop}
-use Rattle.refusal.specs.Joined.{joined}
+use mathlib.Core.Path.{refl}
 use Rattle.refusal.proofs.Laws.{joins-on, joins-all}
 use borrow.Author.Rules.{rules}
 use Rattle.refusal.proofs.joined_bytes.Goals as goal

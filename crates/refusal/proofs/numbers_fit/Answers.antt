@@ -4,7 +4,6 @@ use lib.ListN.{get_or}
 use Rattle.machine.specs.Refusal.{registers_fit, frame_fits, state_fits}
 use Rattle.machine.specs.Layout.{part, registers_of, frame_of}
 use Rattle.refusal.proofs.Laws.{or-test, joined-test, list-test}
-use borrow.Author.Rules.{rules}
 use Rattle.refusal.proofs.numbers_fit.Goals as goal
 
 pub returns : goal.returns

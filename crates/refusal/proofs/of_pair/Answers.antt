@@ -3,7 +3,6 @@ use borrow.Author.Tests.{lt-ltb, le-ltb}
 use Rattle.machine.specs.Refusal.{pair_refusal, first_due}
 use Rattle.machine.specs.Layout.{part, frame_of}
 use Rattle.refusal.proofs.Laws.{list-test}
-use borrow.Author.Rules.{rules}
 use Rattle.refusal.proofs.of_pair.Goals as goal
 
 pub returns-then-not-memory_fits : goal.returns-then-not-memory_fits

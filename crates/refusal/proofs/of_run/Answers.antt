@@ -1,7 +1,6 @@
 use borrow.Author.Tests.{lt-ltb, le-ltb}
 use Rattle.machine.specs.Refusal.{run_refusal, first_due}
 use Rattle.machine.specs.Layout.{frame_of}
-use borrow.Author.Rules.{rules}
 use Rattle.refusal.proofs.of_run.Goals as goal
 
 pub returns-then-not-memory_fits : goal.returns-then-not-memory_fits

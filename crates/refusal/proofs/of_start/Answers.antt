@@ -1,6 +1,5 @@
 use borrow.Author.Tests.{lt-ltb, le-ltb}
 use Rattle.machine.specs.Refusal.{start_refusal, first_due}
-use borrow.Author.Rules.{rules}
 use Rattle.refusal.proofs.of_start.Goals as goal
 
 pub returns-then-not-memory_fits : goal.returns-then-not-memory_fits

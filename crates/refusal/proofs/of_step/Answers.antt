@@ -1,5 +1,4 @@
 use Rattle.machine.specs.Refusal.{step_refusal, run_refusal, first_due}
-use borrow.Author.Rules.{rules}
 use Rattle.refusal.proofs.of_step.Goals as goal
 
 pub returns : goal.returns

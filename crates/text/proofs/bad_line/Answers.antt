@@ -1,14 +1,11 @@
-use mathlib.Core.Path.{◌≡◌, refl, sym, ◌∙◌}
-use Prim.Native.Nat.{◌+◌, ◌*◌, ◌-◌, ◌^◌, ◌≤◌, ◌<◌}
+use mathlib.Core.Path.{refl, sym, ◌∙◌}
 use native.Mathlib.Nat.{add-zero}
 use native.Mathlib.Omega.{arith}
 use lib.Dec.{lit<}
 use borrow.Author.Tests.{not-true, not-false, eq-eqb, ne_eqb}
-use Rattle.text.specs.Digits.{all_hex, hex_from}
 use Rattle.text.specs.Sheet.{bad_line}
 use Rattle.text.proofs.Reading.{hex-next, hex-done, all-next, all-not, all_done, digit-more}
 use Rattle.text.proofs.Reading.{digits-most, no_address, no_value, all_digits, line-bad, line-good}
-use borrow.Author.Rules.{rules}
 use Rattle.text.proofs.bad_line.Goals as goal
 
 pub lines-init : goal.lines-init

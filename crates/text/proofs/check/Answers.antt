@@ -4,7 +4,6 @@ use native.Mathlib.Omega.{arith}
 use borrow.Author.Tests.{lt-ltb, le-ltb, eq-eqb, ne_eqb}
 use Rattle.text.specs.Sheet.{check_of, after_steps, after_words}
 use Rattle.text.specs.Bounds.{HeadFits}
-use borrow.Author.Rules.{rules}
 use Rattle.text.proofs.check.Goals as goal
 
 pub returns-then-text-gt24576 : goal.returns-then-text-gt24576

@@ -2,7 +2,6 @@ use mathlib.Core.Path.{ap, ◌∙◌}
 use Prim.Native.Nat.{ℕ}
 use native.Mathlib.Omega.{arith}
 use Rattle.text.specs.Report.{smaller}
-use borrow.Author.Rules.{rules}
 use Rattle.text.proofs.compared.Goals as goal
 
 pub returns : goal.returns

@@ -1,10 +1,6 @@
-use mathlib.Core.Path.{◌≡◌}
-use Prim.Native.Nat.{◌+◌, ◌-◌, ◌≤◌}
 use native.Mathlib.Nat.{sub-zero, zero-add}
 use native.Mathlib.Omega.{arith}
-use Rattle.text.specs.Report.{changes}
 use Rattle.text.proofs.Writing.{changes-next, changes-done}
-use borrow.Author.Rules.{rules}
 use Rattle.text.proofs.count_changes.Goals as goal
 
 pub loop-address-init : goal.loop-address-init

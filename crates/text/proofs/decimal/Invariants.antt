@@ -1,12 +1,6 @@
-use mathlib.Core.Path.{◌≡◌, sym, ◌∙◌}
+use mathlib.Core.Path.{◌≡◌}
 use Prim.Native.Nat.{◌+◌, ◌-◌, ◌^◌, ◌≤◌, ◌<◌}
-use native.Mathlib.Nat.{add-zero}
-use native.Mathlib.Omega.{arith}
-use lib.Dec.{lit<}
-use borrow.Author.Tests.{not-true, not-false}
 use Rattle.text.specs.Sheet.{decimal_from}
-use Rattle.text.proofs.Reading.{decimal-range, decimal-next, decimal-stop, decimal-done, digit-more, digits-most, fits_more}
-use borrow.Author.Rules.{rules}
 use Rattle.text.proofs.decimal.Given as goal
 
 abbrev pub invariant-loop-d : goal.invariant-loop-d

@@ -2,7 +2,6 @@ use mathlib.Core.Path.{sym, ◌∙◌}
 use native.Mathlib.Omega.{arith}
 use borrow.Author.Tests.{eq-eqb, ne_eqb}
 use Rattle.text.specs.Sheet.{ends_at}
-use borrow.Author.Rules.{rules}
 use Rattle.text.proofs.ends.Goals as goal
 
 pub returns-then-byte_at-eq10 : goal.returns-then-byte_at-eq10

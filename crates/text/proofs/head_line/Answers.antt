@@ -5,7 +5,6 @@ use native.Mathlib.Omega.{arith}
 use borrow.Author.Tests.{lt-leb, le-leb, not-true, not-false}
 use Rattle.text.specs.Sheet.{head_at, up_to}
 use Rattle.text.specs.Bounds.{HeadFits}
-use borrow.Author.Rules.{rules}
 use Rattle.text.proofs.head_line.Goals as goal
 
 pub returns-then-not-starts : goal.returns-then-not-starts

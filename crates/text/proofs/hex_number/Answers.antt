@@ -1,11 +1,8 @@
-use mathlib.Core.Path.{◌≡◌, sym, ◌∙◌}
-use Prim.Native.Nat.{◌+◌, ◌-◌, ◌^◌, ◌≤◌, ◌<◌}
+use mathlib.Core.Path.{sym, ◌∙◌}
 use native.Mathlib.Nat.{add-zero, sub-zero}
 use native.Mathlib.Omega.{arith}
 use lib.Dec.{lit<}
-use Rattle.text.specs.Digits.{hex_from}
 use Rattle.text.proofs.Reading.{hex-next, hex-done, digit-more, digits-most}
-use borrow.Author.Rules.{rules}
 use Rattle.text.proofs.hex_number.Goals as goal
 
 pub loop-d-init : goal.loop-d-init

@@ -1,11 +1,6 @@
-use mathlib.Core.Path.{◌≡◌, sym, ◌∙◌}
+use mathlib.Core.Path.{◌≡◌}
 use Prim.Native.Nat.{◌+◌, ◌-◌, ◌^◌, ◌≤◌, ◌<◌}
-use native.Mathlib.Nat.{add-zero, sub-zero}
-use native.Mathlib.Omega.{arith}
-use lib.Dec.{lit<}
 use Rattle.text.specs.Digits.{hex_from}
-use Rattle.text.proofs.Reading.{hex-next, hex-done, digit-more, digits-most}
-use borrow.Author.Rules.{rules}
 use Rattle.text.proofs.hex_number.Given as goal
 
 abbrev pub invariant-loop-d : goal.invariant-loop-d

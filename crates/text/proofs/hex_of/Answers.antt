@@ -2,7 +2,6 @@ use mathlib.Core.Path.{sym, ◌∙◌}
 use native.Mathlib.Omega.{arith}
 use Rattle.text.specs.Digits.{hex_of}
 use Rattle.text.proofs.Reading.{decimal-range, letter-range}
-use borrow.Author.Rules.{rules}
 use Rattle.text.proofs.hex_of.Goals as goal
 
 pub overflow_sub-result : goal.overflow_sub-result

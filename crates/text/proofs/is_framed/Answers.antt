@@ -1,7 +1,6 @@
 use mathlib.Core.Path.{sym, ◌∙◌}
 use borrow.Author.Tests.{ne_eqb, eq-eqb, lt-leb, le-leb}
 use Rattle.text.specs.Sheet.{framed}
-use borrow.Author.Rules.{rules}
 use Rattle.text.proofs.is_framed.Goals as goal
 
 pub returns-then-byte_at-ne61 : goal.returns-then-byte_at-ne61

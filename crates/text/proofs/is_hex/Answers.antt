@@ -1,5 +1,4 @@
 use Rattle.text.specs.Digits.{is_hex}
-use borrow.Author.Rules.{rules}
 use Rattle.text.proofs.is_hex.Goals as goal
 
 pub returns-then-is_decimal : goal.returns-then-is_decimal

@@ -3,7 +3,6 @@ use native.Mathlib.Omega.{arith}
 use borrow.Author.Tests.{eq-eqb, ne_eqb, not-true, not-false}
 use Rattle.text.specs.Sheet.{number_at}
 use Rattle.text.proofs.Reading.{fits_more}
-use borrow.Author.Rules.{rules}
 use Rattle.text.proofs.number_at.Goals as goal
 
 pub returns-then-first-eq48 : goal.returns-then-first-eq48

@@ -1,9 +1,6 @@
-use mathlib.Core.Path.{◌≡◌, refl, subst}
-use Prim.Native.Nat.{ℕ, suc, ◌+◌, ◌-◌, ◌/◌, ◌^◌, ◌≤◌, ◌<◌}
-use native.Mathlib.Nat.{div-lt_self}
-use native.Mathlib.Omega.{arith}
+use mathlib.Core.Path.{◌≡◌}
+use Prim.Native.Nat.{ℕ, ◌+◌, ◌-◌, ◌^◌, ◌≤◌, ◌<◌}
 use Rattle.text.specs.Digits.{places_of}
-use Rattle.text.proofs.Writing.{places-next, places-last, one_fewer, two-left}
 use Rattle.text.proofs.places.Given as goal
 
 abbrev pub invariant-loop-rest : goal.invariant-loop-rest

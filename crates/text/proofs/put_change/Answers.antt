@@ -2,7 +2,6 @@ use native.Mathlib.Omega.{arith}
 use borrow.Author.Tests.{eq-eqb, ne_eqb}
 use Rattle.text.specs.Report.{change_text}
 use Rattle.text.proofs.Writing.{then, wrote_none}
-use borrow.Author.Rules.{rules}
 use Rattle.text.proofs.put_change.Goals as goal
 
 pub returns-then-old-new : goal.returns-then-old-new

@@ -2,7 +2,6 @@ use Rattle.text.specs.Report.{changed_lines}
 use Rattle.text.proofs.Writing.{then}
 use Rattle.text.proofs.Length.{words-most}
 use native.Mathlib.Omega.{arith}
-use borrow.Author.Rules.{rules}
 use Rattle.text.proofs.put_changed.Goals as goal
 
 pub returns : goal.returns

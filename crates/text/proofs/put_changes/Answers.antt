@@ -1,12 +1,7 @@
-use mathlib.Core.Path.{◌≡◌, refl, ◌∙◌}
-use mathlib.Core.List.{List}
-use Prim.Native.Nat.{ℕ, ◌+◌, ◌-◌, ◌*◌, ◌≤◌}
+use mathlib.Core.Path.{refl, ◌∙◌}
 use native.Mathlib.Nat.{sub-zero}
 use native.Mathlib.Omega.{arith}
-use lib.ListN.{length}
-use Rattle.text.specs.Report.{changed_words, Wrote}
 use Rattle.text.proofs.Writing.{then, wrote_none, wrote_as, words-next, words-done}
-use borrow.Author.Rules.{rules}
 use Rattle.text.proofs.put_changes.Goals as goal
 
 pub loop-a-init : goal.loop-a-init

@@ -1,12 +1,8 @@
-use mathlib.Core.Path.{◌≡◌, refl, ◌∙◌}
+use mathlib.Core.Path.{◌≡◌}
 use mathlib.Core.List.{List}
 use Prim.Native.Nat.{ℕ, ◌+◌, ◌-◌, ◌*◌, ◌≤◌}
-use native.Mathlib.Nat.{sub-zero}
-use native.Mathlib.Omega.{arith}
 use lib.ListN.{length}
 use Rattle.text.specs.Report.{changed_words, Wrote}
-use Rattle.text.proofs.Writing.{then, wrote_none, wrote_as, words-next, words-done}
-use borrow.Author.Rules.{rules}
 use Rattle.text.proofs.put_changes.Given as goal
 
 abbrev pub invariant-loop-a : goal.invariant-loop-a

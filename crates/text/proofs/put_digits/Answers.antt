@@ -1,12 +1,7 @@
-use mathlib.Core.Path.{◌≡◌, refl, sym, ◌∙◌}
-use Prim.Native.Nat.{◌≤◌}
+use mathlib.Core.Path.{refl, sym, ◌∙◌}
 use native.Mathlib.Nat.{mod-lt, lt_of_lt_of_le}
 use native.Mathlib.Omega.{arith}
-use lib.ListN.{length}
-use lib.Seq.{sets}
-use Rattle.text.specs.Digits.{digits}
 use Rattle.text.proofs.Writing.{digits-next, digits-done}
-use borrow.Author.Rules.{rules}
 use Rattle.text.proofs.put_digits.Goals as goal
 
 pub loop-i-init : goal.loop-i-init

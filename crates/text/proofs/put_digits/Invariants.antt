@@ -1,12 +1,8 @@
-use mathlib.Core.Path.{◌≡◌, refl, sym, ◌∙◌}
+use mathlib.Core.Path.{◌≡◌}
 use Prim.Native.Nat.{◌≤◌}
-use native.Mathlib.Nat.{mod-lt, lt_of_lt_of_le}
-use native.Mathlib.Omega.{arith}
 use lib.ListN.{length}
 use lib.Seq.{sets}
 use Rattle.text.specs.Digits.{digits}
-use Rattle.text.proofs.Writing.{digits-next, digits-done}
-use borrow.Author.Rules.{rules}
 use Rattle.text.proofs.put_digits.Given as goal
 
 abbrev pub invariant-loop-i : goal.invariant-loop-i

@@ -1,11 +1,8 @@
 use mathlib.Core.Path.{◌≡◌, refl, ◌∙◌}
-use mathlib.Core.List.{List}
-use Prim.Native.Nat.{ℕ, ◌+◌, ◌-◌, ◌*◌, ◌≤◌, ◌<◌}
+use Prim.Native.Nat.{◌<◌}
 use native.Mathlib.Omega.{arith}
-use lib.ListN.{length, drop}
-use Rattle.text.specs.Report.{after_commas, Wrote}
+use lib.ListN.{length}
 use Rattle.text.proofs.Writing.{then, wrote-byte, wrote_none, wrote_as, commas-first, commas-next, commas-done}
-use borrow.Author.Rules.{rules}
 use Rattle.text.proofs.put_list.Goals as goal
 
 pub loop-i-init : goal.loop-i-init

@@ -1,11 +1,8 @@
-use mathlib.Core.Path.{◌≡◌, refl, ◌∙◌}
+use mathlib.Core.Path.{◌≡◌}
 use mathlib.Core.List.{List}
-use Prim.Native.Nat.{ℕ, ◌+◌, ◌-◌, ◌*◌, ◌≤◌, ◌<◌}
-use native.Mathlib.Omega.{arith}
+use Prim.Native.Nat.{ℕ, ◌+◌, ◌-◌, ◌*◌, ◌≤◌}
 use lib.ListN.{length, drop}
 use Rattle.text.specs.Report.{after_commas, Wrote}
-use Rattle.text.proofs.Writing.{then, wrote-byte, wrote_none, wrote_as, commas-first, commas-next, commas-done}
-use borrow.Author.Rules.{rules}
 use Rattle.text.proofs.put_list.Given as goal
 
 abbrev pub invariant-loop-i : goal.invariant-loop-i

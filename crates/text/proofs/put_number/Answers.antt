@@ -1,6 +1,5 @@
 use native.Mathlib.Omega.{arith}
 use Rattle.text.proofs.Writing.{width-least, width-own, wrote-number}
-use borrow.Author.Rules.{rules}
 use Rattle.text.proofs.put_number.Goals as goal
 
 pub returns-then-k-least : goal.returns-then-k-least

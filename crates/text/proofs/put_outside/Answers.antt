@@ -1,6 +1,5 @@
 use native.Mathlib.Omega.{arith}
 use Rattle.text.specs.Report.{outside_line}
-use borrow.Author.Rules.{rules}
 use Rattle.text.proofs.put_outside.Goals as goal
 
 pub returns-in-Clean : goal.returns-in-Clean

@@ -2,7 +2,6 @@ use native.Mathlib.Omega.{arith}
 use Rattle.machine.specs.Layout.{frame_of}
 use Rattle.text.specs.Report.{program_lines}
 use Rattle.text.proofs.Writing.{then}
-use borrow.Author.Rules.{rules}
 use Rattle.text.proofs.put_program.Goals as goal
 
 pub returns : goal.returns

@@ -2,7 +2,6 @@ use native.Mathlib.Omega.{arith}
 use Rattle.machine.specs.Layout.{part, registers_of}
 use Rattle.text.specs.Report.{register_lines}
 use Rattle.text.proofs.Writing.{then}
-use borrow.Author.Rules.{rules}
 use Rattle.text.proofs.put_registers.Goals as goal
 
 pub returns : goal.returns

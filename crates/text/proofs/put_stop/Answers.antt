@@ -1,5 +1,4 @@
 use Rattle.text.specs.Report.{stop_line}
-use borrow.Author.Rules.{rules}
 use Rattle.text.proofs.put_stop.Goals as goal
 
 pub returns-in-Budget : goal.returns-in-Budget

@@ -1,5 +1,4 @@
 use Rattle.text.specs.Report.{cause_name}
-use borrow.Author.Rules.{rules}
 use Rattle.text.proofs.put_stray.Goals as goal
 
 pub returns-in-BelowBase : goal.returns-in-BelowBase

@@ -1,12 +1,8 @@
 use mathlib.Core.Path.{◌≡◌, refl, ◌∙◌}
-use mathlib.Core.List.{List}
-use Prim.Native.Nat.{ℕ, ◌+◌, ◌-◌, ◌≤◌}
 use native.Mathlib.Nat.{add-zero}
 use native.Mathlib.Omega.{arith}
-use lib.ListN.{length, drop}
-use Rattle.text.specs.Report.{Wrote}
+use lib.ListN.{length}
 use Rattle.text.proofs.Writing.{text-next, text-done}
-use borrow.Author.Rules.{rules}
 use Rattle.text.proofs.put_text.Goals as goal
 
 pub loop-i-init : goal.loop-i-init

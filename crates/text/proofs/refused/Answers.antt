@@ -1,7 +1,6 @@
 use native.Mathlib.Omega.{arith}
 use Rattle.text.specs.Report.{refused_of}
 use Rattle.text.proofs.Writing.{then}
-use borrow.Author.Rules.{rules}
 use Rattle.text.proofs.refused.Goals as goal
 
 pub returns : goal.returns

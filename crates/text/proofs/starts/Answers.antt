@@ -1,11 +1,8 @@
 use mathlib.Core.Path.{◌≡◌, sym, ◌∙◌}
-use Prim.Native.Nat.{◌+◌, ◌-◌, ◌≤◌}
 use native.Mathlib.Nat.{add-zero}
 use native.Mathlib.Omega.{arith}
-use lib.ListN.{length, drop}
-use Rattle.text.specs.Sheet.{starts_at}
+use lib.ListN.{length}
 use Rattle.text.proofs.Reading.{starts-next, starts-not, starts-done}
-use borrow.Author.Rules.{rules}
 use Rattle.text.proofs.starts.Goals as goal
 
 pub loop-i-init : goal.loop-i-init

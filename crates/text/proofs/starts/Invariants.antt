@@ -1,11 +1,7 @@
-use mathlib.Core.Path.{◌≡◌, sym, ◌∙◌}
+use mathlib.Core.Path.{◌≡◌}
 use Prim.Native.Nat.{◌+◌, ◌-◌, ◌≤◌}
-use native.Mathlib.Nat.{add-zero}
-use native.Mathlib.Omega.{arith}
 use lib.ListN.{length, drop}
 use Rattle.text.specs.Sheet.{starts_at}
-use Rattle.text.proofs.Reading.{starts-next, starts-not, starts-done}
-use borrow.Author.Rules.{rules}
 use Rattle.text.proofs.starts.Given as goal
 
 abbrev pub invariant-loop-i : goal.invariant-loop-i

@@ -1,6 +1,5 @@
 use mathlib.Core.Path.{sym}
 use lib.Seq.{set_out}
-use borrow.Author.Rules.{rules}
 use Rattle.text.proofs.store.Goals as goal
 
 pub returns-else-i-mem : goal.returns-else-i-mem

@@ -1,10 +1,6 @@
-use mathlib.Core.Path.{◌≡◌, refl, sym, ◌∙◌}
-use Prim.Native.Nat.{◌+◌, ◌*◌, ◌≤◌}
+use mathlib.Core.Path.{refl, sym, ◌∙◌}
 use native.Mathlib.Omega.{arith}
-use lib.ListN.{length}
-use Rattle.text.specs.Sheet.{stored}
 use Rattle.text.proofs.Reading.{stored_next, stored-done}
-use borrow.Author.Rules.{rules}
 use Rattle.text.proofs.store_words.Goals as goal
 
 pub loop-left-init : goal.loop-left-init

@@ -1,10 +1,7 @@
-use mathlib.Core.Path.{◌≡◌, refl, sym, ◌∙◌}
+use mathlib.Core.Path.{◌≡◌}
 use Prim.Native.Nat.{◌+◌, ◌*◌, ◌≤◌}
-use native.Mathlib.Omega.{arith}
 use lib.ListN.{length}
 use Rattle.text.specs.Sheet.{stored}
-use Rattle.text.proofs.Reading.{stored_next, stored-done}
-use borrow.Author.Rules.{rules}
 use Rattle.text.proofs.store_words.Given as goal
 
 abbrev pub invariant-loop-left : goal.invariant-loop-left

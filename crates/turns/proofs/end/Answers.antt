@@ -1,6 +1,5 @@
 use native.Mathlib.Omega.{arith}
 use Rattle.turns.proofs.Runs.{end-spent, end-one, end-two, end-ended}
-use borrow.Author.Rules.{rules}
 use Rattle.turns.proofs.end.Goals as goal
 
 pub strayed-requires : goal.strayed-requires

@@ -3,7 +3,6 @@ use native.Mathlib.Omega.{arith}
 use Rattle.machine.specs.Step.{finish}
 use Rattle.machine.specs.Layout.{frame_of}
 use Rattle.turns.proofs.Steps.{flag_small}
-use borrow.Author.Rules.{rules}
 use Rattle.turns.proofs.finish.Goals as goal
 
 pub leave-requires : goal.leave-requires

@@ -1,4 +1,3 @@
-use borrow.Author.Rules.{rules}
 use Rattle.turns.proofs.in_user_mode.Goals as goal
 
 pub returns-then-is_user : goal.returns-then-is_user

@@ -1,5 +1,4 @@
 use Rattle.turns.proofs.Steps.{some_after}
-use borrow.Author.Rules.{rules}
 use Rattle.turns.proofs.last_after.Goals as goal
 
 pub returns-else-n-eq0 : goal.returns-else-n-eq0

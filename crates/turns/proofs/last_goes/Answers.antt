@@ -1,4 +1,3 @@
-use borrow.Author.Rules.{rules}
 use Rattle.turns.proofs.last_goes.Goals as goal
 
 pub returns-in-Was : goal.returns-in-Was

@@ -1,4 +1,3 @@
-use borrow.Author.Rules.{rules}
 use Rattle.turns.proofs.move_p.Goals as goal
 
 pub returns-in-PastOne : goal.returns-in-PastOne

@@ -1,7 +1,6 @@
 use mathlib.Core.Path.{sym, ◌∙◌}
 use native.Mathlib.Omega.{arith}
 use Rattle.turns.proofs.Steps.{ranged-leaves, ranged-monitor, ranged-passes}
-use borrow.Author.Rules.{rules}
 use Rattle.turns.proofs.ranged.Goals as goal
 use Rattle.turns.proofs.ranged.Goals.{else-r-eq0-via-then-r-eq0+else-r-eq1, else-r-eq0-via-else-r-eq0}
 

@@ -1,5 +1,4 @@
 use Rattle.turns.proofs.Steps.{set_p}
-use borrow.Author.Rules.{rules}
 use Rattle.turns.proofs.set_p.Goals as goal
 
 pub returns : goal.returns

@@ -1,5 +1,4 @@
 use mathlib.Core.Path.{sym, ◌∙◌}
-use lib.ListN.{length}
 use Rattle.turns.proofs.Runs.{still-fitting, came-spent, came-one, came-two, came-ended}
 use borrow.Author.Rules.{rules}
 use Rattle.turns.proofs.stretch.Goals as goal

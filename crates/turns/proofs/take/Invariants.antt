@@ -1,14 +1,10 @@
-use mathlib.Core.Path.{refl, sym, ◌∙◌}
-use mathlib.Core.Logic.{⊎_elim}
-use native.Mathlib.Omega.{arith}
 use lib.ListN.{length}
 use Rattle.machine.specs.declared.Stray.TheVariants.{Clean}
 use Rattle.machine.specs.declared.Last.TheVariants.{Nothing}
 use Rattle.machine.specs.State.{sharing}
 use Rattle.machine.specs.Layout.{state_of}
 use Rattle.turns.specs.Turn.{resumed}
-use Rattle.turns.proofs.Runs.{untold, Running, togo, running, runs_on, over}
-use borrow.Author.Rules.{rules}
+use Rattle.turns.proofs.Runs.{Running, togo}
 use Rattle.turns.proofs.take.Given as goal
 
 abbrev pub invariant-loop-steps : goal.invariant-loop-steps

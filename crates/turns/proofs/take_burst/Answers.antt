@@ -1,8 +1,5 @@
-use Prim.Native.Nat.{ℕ}
-use mathlib.Core.Path.{◌≡◌, sym, ◌∙◌}
-use native.Mathlib.Omega.{arith}
-use lib.ListN.{length}
-use Rattle.turns.proofs.Steps.{Going, begins, goes_on_lem, ends, spent}
+use mathlib.Core.Path.{sym, ◌∙◌}
+use Rattle.turns.proofs.Steps.{begins, goes_on_lem, ends, spent}
 use borrow.Author.Rules.{rules}
 use Rattle.turns.proofs.take_burst.Goals as goal
 

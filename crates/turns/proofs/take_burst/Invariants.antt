@@ -1,9 +1,4 @@
-use Prim.Native.Nat.{ℕ}
-use mathlib.Core.Path.{◌≡◌, sym, ◌∙◌}
-use native.Mathlib.Omega.{arith}
-use lib.ListN.{length}
-use Rattle.turns.proofs.Steps.{Going, begins, goes_on_lem, ends, spent}
-use borrow.Author.Rules.{rules}
+use Rattle.turns.proofs.Steps.{Going}
 use Rattle.turns.proofs.take_burst.Given as goal
 
 abbrev pub invariant-loop-left : goal.invariant-loop-left

@@ -1,6 +1,5 @@
 use mathlib.Core.Path.{◌∙◌}
 use Rattle.turns.proofs.Runs.{turn_is}
-use borrow.Author.Rules.{rules}
 use Rattle.turns.proofs.turn.Goals as goal
 
 pub returns : goal.returns

@@ -1,8 +1,7 @@
-use Prim.Native.Nat.{◌+◌, ◌-◌}
+use Prim.Native.Nat.{◌+◌}
 use native.Mathlib.Omega.{arith}
 use Rattle.machine.specs.Parcel.{j_of, k_of}
-use Rattle.vector.specs.Element.{two_of}
-use Rattle.vector.proofs.Loops.{vj, vk, Doing, begins, reads, goes, ends}
+use Rattle.vector.proofs.Loops.{begins, reads, goes, ends}
 use Rattle.vector.proofs.Arms.{with-vj}
 use borrow.Author.Rules.{rules}
 use Rattle.vector.proofs.both.Goals as goal

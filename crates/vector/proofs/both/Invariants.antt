@@ -1,10 +1,6 @@
-use Prim.Native.Nat.{◌+◌, ◌-◌}
-use native.Mathlib.Omega.{arith}
-use Rattle.machine.specs.Parcel.{j_of, k_of}
+use Prim.Native.Nat.{◌-◌}
 use Rattle.vector.specs.Element.{two_of}
-use Rattle.vector.proofs.Loops.{vj, vk, Doing, begins, reads, goes, ends}
-use Rattle.vector.proofs.Arms.{with-vj}
-use borrow.Author.Rules.{rules}
+use Rattle.vector.proofs.Loops.{vj, vk, Doing}
 use Rattle.vector.proofs.both.Given as goal
 
 abbrev pub invariant-loop-e : goal.invariant-loop-e

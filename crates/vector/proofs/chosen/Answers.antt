@@ -2,7 +2,6 @@ use mathlib.Core.Path.{◌∙◌}
 use mathlib.Core.Bool.{true, false}
 use borrow.Author.Tests.{eq-eqb, ne_eqb}
 use Rattle.vector.proofs.Merges.{merge-by}
-use borrow.Author.Rules.{rules}
 use Rattle.vector.proofs.chosen.Goals as goal
 use Rattle.vector.proofs.chosen.Goals.{then-vm-e-eq1, else-vm-e-eq1}
 

@@ -5,7 +5,6 @@ use mathlib.Core.Path.{◌≡◌, refl}
 use Rattle.machine.specs.Act.{ones_v, parity_v}
 use Rattle.machine.specs.Codes.{holds_one, holds_none, nth, code_of}
 use Rattle.access.proofs.Leaf.{not-held}
-use borrow.Author.Rules.{rules}
 use Rattle.vector.proofs.count.Goals as goal
 
 -- only 174ij1 and 174ij2 are held

@@ -1,4 +1,3 @@
-use borrow.Author.Rules.{rules}
 use Rattle.vector.proofs.left_of.Goals as goal
 
 pub returns-else-scalar : goal.returns-else-scalar

@@ -1,16 +1,14 @@
-use Prim.Native.Nat.{◌+◌, ◌-◌, ◌≤◌}
+use Prim.Native.Nat.{◌+◌, ◌-◌}
 use mathlib.Core.Path.{◌∙◌, refl}
 use native.Mathlib.Omega.{arith}
 use lib.ListN.{length-set}
 use borrow.Author.Tests.{eq-eqb, ne_eqb}
-use Rattle.machine.specs.Word.{shift_left_pair}
-use Rattle.machine.specs.Parcel.{j_of, k_of}
-use Rattle.machine.specs.State.{ak}
-use Rattle.machine.specs.Act.{left_pair_v, after, act}
+use Rattle.machine.specs.Parcel.{j_of}
+use Rattle.machine.specs.Act.{left_pair_v, act}
 use Rattle.machine.specs.Codes.{code_of}
 use Rattle.machine.specs.Layout.{registers_of}
 use Rattle.access.proofs.Leaf.{puts}
-use Rattle.vector.proofs.Loops.{vj, Doing, begins, reads, goes, ends}
+use Rattle.vector.proofs.Loops.{begins, reads, goes, ends}
 use borrow.Author.Rules.{rules}
 use Rattle.vector.proofs.left_pairs.Goals as goal
 

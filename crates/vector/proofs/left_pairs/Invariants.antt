@@ -1,17 +1,10 @@
-use Prim.Native.Nat.{◌+◌, ◌-◌, ◌≤◌}
-use mathlib.Core.Path.{◌∙◌, refl}
-use native.Mathlib.Omega.{arith}
-use lib.ListN.{length-set}
-use borrow.Author.Tests.{eq-eqb, ne_eqb}
+use Prim.Native.Nat.{◌-◌, ◌≤◌}
 use Rattle.machine.specs.Word.{shift_left_pair}
-use Rattle.machine.specs.Parcel.{j_of, k_of}
+use Rattle.machine.specs.Parcel.{k_of}
 use Rattle.machine.specs.State.{ak}
-use Rattle.machine.specs.Act.{left_pair_v, after, act}
-use Rattle.machine.specs.Codes.{code_of}
+use Rattle.machine.specs.Act.{after}
 use Rattle.machine.specs.Layout.{registers_of}
-use Rattle.access.proofs.Leaf.{puts}
-use Rattle.vector.proofs.Loops.{vj, Doing, begins, reads, goes, ends}
-use borrow.Author.Rules.{rules}
+use Rattle.vector.proofs.Loops.{vj, Doing}
 use Rattle.vector.proofs.left_pairs.Given as goal
 
 abbrev pub invariant-loop-e : goal.invariant-loop-e

@@ -4,7 +4,6 @@ use lib.ListN.{get_or-eq_default}
 use borrow.Author.Tests.{ne_eqb}
 use Rattle.machine.specs.Codes.{code_of}
 use Rattle.access.proofs.Leaf.{not-held}
-use borrow.Author.Rules.{rules}
 use Rattle.vector.proofs.mark.Goals as goal
 
 pub returns-then-i-ne0 : goal.returns-then-i-ne0

@@ -1,5 +1,4 @@
 use Rattle.vector.proofs.Marks.{bit-of}
-use borrow.Author.Rules.{rules}
 use Rattle.vector.proofs.mark_of.Goals as goal
 
 pub returns-then-meets : goal.returns-then-meets

@@ -1,4 +1,3 @@
-use borrow.Author.Rules.{rules}
 use Rattle.vector.proofs.meets.Goals as goal
 
 pub returns-in-Zero : goal.returns-in-Zero

@@ -1,10 +1,9 @@
-use Prim.Native.Nat.{◌+◌, ◌-◌, ◌*◌, ◌%◌, ◌^◌, ◌≤◌}
-use mathlib.Core.Path.{◌≡◌}
+use Prim.Native.Nat.{◌+◌}
 use native.Mathlib.Omega.{arith}
 use Rattle.machine.specs.Layout.{registers_of}
-use Rattle.vector.proofs.Loops.{Doing, begins, ends}
-use Rattle.vector.proofs.Arms.{merged_of, merging}
-use Rattle.vector.proofs.Merges.{shift-more, goes_one, goes-four, GoesOn}
+use Rattle.vector.proofs.Loops.{begins, ends}
+use Rattle.vector.proofs.Arms.{merging}
+use Rattle.vector.proofs.Merges.{shift-more, goes_one, goes-four}
 use borrow.Author.Rules.{rules}
 use Rattle.vector.proofs.merge_by.Goals as goal
 

@@ -1,11 +1,9 @@
-use Prim.Native.Nat.{◌+◌, ◌-◌, ◌*◌, ◌%◌, ◌^◌, ◌≤◌}
+use Prim.Native.Nat.{◌-◌, ◌*◌, ◌%◌, ◌^◌, ◌≤◌}
 use mathlib.Core.Path.{◌≡◌}
-use native.Mathlib.Omega.{arith}
 use Rattle.machine.specs.Layout.{registers_of}
-use Rattle.vector.proofs.Loops.{Doing, begins, ends}
-use Rattle.vector.proofs.Arms.{merged_of, merging}
-use Rattle.vector.proofs.Merges.{shift-more, goes_one, goes-four, GoesOn}
-use borrow.Author.Rules.{rules}
+use Rattle.vector.proofs.Loops.{Doing}
+use Rattle.vector.proofs.Arms.{merged_of}
+use Rattle.vector.proofs.Merges.{GoesOn}
 use Rattle.vector.proofs.merge_by.Given as goal
 
 abbrev pub invariant-loop-e : goal.invariant-loop-e

@@ -1,4 +1,3 @@
-use borrow.Author.Rules.{rules}
 use Rattle.vector.proofs.of_one.Goals as goal
 
 pub returns-in-Left : goal.returns-in-Left

@@ -1,4 +1,3 @@
-use borrow.Author.Rules.{rules}
 use Rattle.vector.proofs.of_two.Goals as goal
 
 pub returns-in-And : goal.returns-in-And

@@ -1,10 +1,7 @@
-use Prim.Native.Nat.{◌+◌, ◌-◌}
+use Prim.Native.Nat.{◌+◌}
 use native.Mathlib.Omega.{arith}
-use Rattle.machine.specs.Parcel.{j_of, k_of}
-use Rattle.machine.specs.State.{ak}
-use Rattle.machine.specs.Layout.{registers_of}
-use Rattle.vector.specs.Element.{one_of}
-use Rattle.vector.proofs.Loops.{vj, Doing, begins, reads, goes, ends}
+use Rattle.machine.specs.Parcel.{j_of}
+use Rattle.vector.proofs.Loops.{begins, reads, goes, ends}
 use Rattle.vector.proofs.Arms.{of-vj}
 use borrow.Author.Rules.{rules}
 use Rattle.vector.proofs.one_vector.Goals as goal

@@ -1,12 +1,9 @@
-use Prim.Native.Nat.{◌+◌, ◌-◌}
-use native.Mathlib.Omega.{arith}
-use Rattle.machine.specs.Parcel.{j_of, k_of}
+use Prim.Native.Nat.{◌-◌}
+use Rattle.machine.specs.Parcel.{k_of}
 use Rattle.machine.specs.State.{ak}
 use Rattle.machine.specs.Layout.{registers_of}
 use Rattle.vector.specs.Element.{one_of}
-use Rattle.vector.proofs.Loops.{vj, Doing, begins, reads, goes, ends}
-use Rattle.vector.proofs.Arms.{of-vj}
-use borrow.Author.Rules.{rules}
+use Rattle.vector.proofs.Loops.{vj, Doing}
 use Rattle.vector.proofs.one_vector.Given as goal
 
 abbrev pub invariant-loop-e : goal.invariant-loop-e

@@ -1,16 +1,11 @@
-use Prim.Native.Nat.{◌+◌, ◌-◌}
-use mathlib.Core.Path.{◌≡◌, refl}
-use native.Mathlib.Omega.{arith}
-use native.Mathlib.Numerals.{add-one}
+use Prim.Native.Nat.{◌-◌}
+use mathlib.Core.Path.{◌≡◌}
 use Rattle.machine.specs.Word.{shift_right_pair}
-use Rattle.machine.specs.Parcel.{j_of, k_of}
+use Rattle.machine.specs.Parcel.{k_of}
 use Rattle.machine.specs.State.{ak}
-use Rattle.machine.specs.Act.{right_pair_v, before, act}
-use Rattle.machine.specs.Codes.{code_of}
+use Rattle.machine.specs.Act.{before}
 use Rattle.machine.specs.Layout.{registers_of}
-use Rattle.access.proofs.Leaf.{puts}
-use Rattle.vector.proofs.Loops.{vj, Doing, begins, reads, goes, ends}
-use borrow.Author.Rules.{rules}
+use Rattle.vector.proofs.Loops.{vj, Doing}
 use Rattle.vector.proofs.right_pairs.Given as goal
 
 abbrev pub invariant-loop-e : goal.invariant-loop-e

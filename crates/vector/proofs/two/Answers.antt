@@ -2,7 +2,6 @@ use Prim.Native.Nat.{◌+◌}
 use native.Mathlib.Omega.{arith}
 use lib.ListN.{get_or, length-set}
 use Rattle.vector.proofs.Merges.{merge-first, merge-second}
-use borrow.Author.Rules.{rules}
 use Rattle.vector.proofs.two.Goals as goal
 
 pub bounds-r-to-2 : goal.bounds-r-to-2

@@ -1,10 +1,7 @@
-use Prim.Native.Nat.{◌+◌, ◌-◌}
+use Prim.Native.Nat.{◌+◌}
 use native.Mathlib.Omega.{arith}
-use Rattle.machine.specs.Parcel.{j_of, k_of}
-use Rattle.machine.specs.State.{sj}
-use Rattle.machine.specs.Layout.{registers_of}
-use Rattle.vector.specs.Element.{two_of}
-use Rattle.vector.proofs.Loops.{vk, Doing, begins, reads, goes, ends}
+use Rattle.machine.specs.Parcel.{k_of}
+use Rattle.vector.proofs.Loops.{begins, reads, goes, ends}
 use Rattle.vector.proofs.Arms.{with-sj}
 use borrow.Author.Rules.{rules}
 use Rattle.vector.proofs.with.Goals as goal

@@ -1,12 +1,9 @@
-use Prim.Native.Nat.{◌+◌, ◌-◌}
-use native.Mathlib.Omega.{arith}
-use Rattle.machine.specs.Parcel.{j_of, k_of}
+use Prim.Native.Nat.{◌-◌}
+use Rattle.machine.specs.Parcel.{j_of}
 use Rattle.machine.specs.State.{sj}
 use Rattle.machine.specs.Layout.{registers_of}
 use Rattle.vector.specs.Element.{two_of}
-use Rattle.vector.proofs.Loops.{vk, Doing, begins, reads, goes, ends}
-use Rattle.vector.proofs.Arms.{with-sj}
-use borrow.Author.Rules.{rules}
+use Rattle.vector.proofs.Loops.{vk, Doing}
 use Rattle.vector.proofs.with.Given as goal
 
 abbrev pub invariant-loop-e : goal.invariant-loop-e

@@ -1,4 +1,3 @@
-use borrow.Author.Rules.{rules}
 use Rattle.xmp.proofs.reply_of.Goals as goal
 
 pub returns-in-Nothing : goal.returns-in-Nothing

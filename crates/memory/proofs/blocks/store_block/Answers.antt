@@ -1,4 +1,4 @@
-use Rattle.std.proofs.Common.{arith, rules}
+use Rattle.std.proofs.Common.{arith}
 use Rattle.memory.proofs.Fields.{held}
 use Rattle.memory.proofs.Many.{block-low, block-stored}
 use Rattle.memory.proofs.blocks.store_block.Goals as goal

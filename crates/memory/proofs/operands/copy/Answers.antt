@@ -1,4 +1,4 @@
-use Rattle.std.proofs.Common.{◌≡◌, ℕ, ◌+◌, ◌-◌, ◌%◌, ◌<◌, ◌≤◌, length, get_or, refl, ◌∙◌, arith, rules}
+use Rattle.std.proofs.Common.{◌≡◌, ℕ, ◌+◌, ◌<◌, get_or, refl, ◌∙◌, arith, rules}
 use Rattle.machine.specs.State.{fill}
 use Rattle.access.specs.Executed.{cut_to}
 use Rattle.memory.proofs.Rows.{fill_more}

@@ -1,7 +1,6 @@
-use Rattle.std.proofs.Common.{◌≡◌, ℕ, ◌+◌, ◌-◌, ◌%◌, ◌<◌, ◌≤◌, length, get_or, refl, ◌∙◌, arith, rules}
+use Rattle.std.proofs.Common.{◌≡◌, ◌+◌, ◌-◌, ◌%◌, ◌≤◌, length, get_or}
 use Rattle.machine.specs.State.{fill}
 use Rattle.access.specs.Executed.{cut_to}
-use Rattle.memory.proofs.Rows.{fill_more}
 use Rattle.memory.proofs.operands.copy.Given as goal
 
 abbrev pub invariant-loop-e : goal.invariant-loop-e

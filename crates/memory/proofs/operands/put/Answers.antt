@@ -1,4 +1,4 @@
-use Rattle.std.proofs.Common.{refl, arith, rules}
+use Rattle.std.proofs.Common.{refl, arith}
 use Rattle.memory.proofs.Rows.{place-in, place_out}
 use Rattle.memory.proofs.operands.put.Goals as goal
 

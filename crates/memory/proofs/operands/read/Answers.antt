@@ -1,8 +1,8 @@
-use Rattle.std.proofs.Common.{◌≡◌, ℕ, ◌+◌, ◌-◌, ◌*◌, ◌%◌, ◌^◌, ◌≤◌, List, length, refl, arith, rules}
+use Rattle.std.proofs.Common.{◌≡◌, ◌+◌, ◌*◌, ◌%◌, ◌^◌, arith, rules}
 use Rattle.access.specs.Window.{load_in}
-use Rattle.access.specs.Executed.{cut_to, ring_at}
+use Rattle.access.specs.Executed.{cut_to}
 use Rattle.access.proofs.Rings.{ring-turn}
-use Rattle.memory.specs.Moves.{row_in, any_beyond}
+use Rattle.memory.specs.Moves.{row_in}
 use Rattle.memory.proofs.Rows.{same_place, next_address, beyond-turn, straight-known, straight-inside, straight-read}
 use Rattle.memory.proofs.operands.read.Goals as goal
 

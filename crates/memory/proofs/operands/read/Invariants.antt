@@ -1,9 +1,7 @@
-use Rattle.std.proofs.Common.{◌≡◌, ℕ, ◌+◌, ◌-◌, ◌*◌, ◌%◌, ◌^◌, ◌≤◌, List, length, refl, arith, rules}
+use Rattle.std.proofs.Common.{◌≡◌, ℕ, ◌+◌, ◌-◌, ◌*◌, ◌%◌, ◌^◌, ◌≤◌, List, length}
 use Rattle.access.specs.Window.{load_in}
 use Rattle.access.specs.Executed.{cut_to, ring_at}
-use Rattle.access.proofs.Rings.{ring-turn}
 use Rattle.memory.specs.Moves.{row_in, any_beyond}
-use Rattle.memory.proofs.Rows.{same_place, next_address, beyond-turn, straight-known, straight-inside, straight-read}
 use Rattle.memory.proofs.operands.read.Given as goal
 
 -- r₀ is the list as the loop finds it: where that is q with the first `whole` words of the row, r is q with the first e

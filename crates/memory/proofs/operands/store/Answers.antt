@@ -1,5 +1,5 @@
-use Rattle.std.proofs.Common.{◌≡◌, ℕ, ◌+◌, ◌-◌, ◌*◌, ◌%◌, ◌^◌, ◌≤◌, List, length, get_or, arith, rules}
-use Rattle.memory.specs.Moves.{row_in, any_beyond, stores_at}
+use Rattle.std.proofs.Common.{◌≡◌, ◌+◌, ◌*◌, ◌%◌, ◌^◌, length, get_or, arith, rules}
+use Rattle.memory.specs.Moves.{row_in}
 use Rattle.memory.proofs.Rows.{same_place, next_address, beyond-turn, stores-turn, straight-known, straight-inside, straight-stored}
 use Rattle.memory.proofs.operands.store.Goals as goal
 

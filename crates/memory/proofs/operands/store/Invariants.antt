@@ -1,6 +1,5 @@
-use Rattle.std.proofs.Common.{◌≡◌, ℕ, ◌+◌, ◌-◌, ◌*◌, ◌%◌, ◌^◌, ◌≤◌, List, length, get_or, arith, rules}
+use Rattle.std.proofs.Common.{◌≡◌, ℕ, ◌+◌, ◌-◌, ◌*◌, ◌%◌, ◌^◌, ◌≤◌, List, length, get_or}
 use Rattle.memory.specs.Moves.{row_in, any_beyond, stores_at}
-use Rattle.memory.proofs.Rows.{same_place, next_address, beyond-turn, stores-turn, straight-known, straight-inside, straight-stored}
 use Rattle.memory.proofs.operands.store.Given as goal
 
 -- mem₀ is memory as the loop finds it: where that is q with the first `whole` words of the row, mem is q with the first e

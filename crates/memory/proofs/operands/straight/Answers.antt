@@ -1,4 +1,4 @@
-use Rattle.std.proofs.Common.{rules, ne_eqb}
+use Rattle.std.proofs.Common.{ne_eqb}
 use Rattle.memory.specs.Moves.{straight_of}
 use Rattle.memory.proofs.operands.straight.Goals as goal
 use Rattle.memory.proofs.operands.straight.Goals.{else-row-eq1-via-then-row-eq1+then-row-le64+else-w-row, else-row-eq1-via-then-row-eq1+else-row-le64, else-row-eq1-via-else-row-eq1}

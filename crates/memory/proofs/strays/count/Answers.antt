@@ -1,4 +1,4 @@
-use Rattle.std.proofs.Common.{rules, le-ltb, lt-ltb}
+use Rattle.std.proofs.Common.{le-ltb, lt-ltb}
 use Rattle.memory.proofs.strays.count.Goals as goal
 
 pub returns-then-x-lt64 : goal.returns-then-x-lt64

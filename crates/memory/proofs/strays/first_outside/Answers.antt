@@ -1,6 +1,5 @@
-use Rattle.std.proofs.Common.{◌≡◌, ◌+◌, ◌-◌, ◌*◌, ◌%◌, ◌^◌, ◌≤◌, sym, refl, ◌∙◌, add-one, arith, rules}
-use Rattle.machine.specs.Memory.{data_field, first_outside}
-use Rattle.machine.specs.Layout.{frame_of}
+use Rattle.std.proofs.Common.{◌≡◌, refl, add-one, arith}
+use Rattle.machine.specs.Memory.{first_outside}
 use Rattle.memory.proofs.Fields.{place-low}
 use Rattle.memory.proofs.Rows.{next_address}
 use Rattle.memory.proofs.strays.first_outside.Goals as goal

@@ -1,8 +1,6 @@
-use Rattle.std.proofs.Common.{◌≡◌, ◌+◌, ◌-◌, ◌*◌, ◌%◌, ◌^◌, ◌≤◌, sym, refl, ◌∙◌, add-one, arith, rules}
+use Rattle.std.proofs.Common.{◌≡◌, ◌+◌, ◌-◌, ◌*◌, ◌%◌, ◌^◌, ◌≤◌}
 use Rattle.machine.specs.Memory.{data_field, first_outside}
 use Rattle.machine.specs.Layout.{frame_of}
-use Rattle.memory.proofs.Fields.{place-low}
-use Rattle.memory.proofs.Rows.{next_address}
 use Rattle.memory.proofs.strays.first_outside.Given as goal
 
 abbrev pub invariant-loop-element : goal.invariant-loop-element

@@ -1,4 +1,3 @@
-use Rattle.std.proofs.Common.{rules}
 use Rattle.memory.proofs.strays.of.Goals as goal
 
 pub returns-in-StrayedOne : goal.returns-in-StrayedOne

@@ -1,4 +1,3 @@
-use Rattle.std.proofs.Common.{rules}
 use Rattle.memory.proofs.strays.or_else.Goals as goal
 
 pub returns-in-First : goal.returns-in-First

@@ -1,4 +1,3 @@
-use Rattle.std.proofs.Common.{rules}
 use Rattle.memory.proofs.strays.stray_at.Goals as goal
 
 pub returns-in-Inside : goal.returns-in-Inside

@@ -1,6 +1,5 @@
 use mathlib.Core.Path.{refl}
 use borrow.Author.Tests.{ne_eqb}
-use borrow.Author.Rules.{rules}
 use Rattle.turns.proofs.pair.newer.Goals as goal
 
 pub returns-then-at-eq0 : goal.returns-then-at-eq0

@@ -1,5 +1,4 @@
 use Rattle.turns.proofs.Lent.{seen}
-use borrow.Author.Rules.{rules}
 use Rattle.turns.proofs.pair.reach_at.Goals as goal
 
 pub reach-requires : goal.reach-requires

@@ -1,5 +1,4 @@
 use Rattle.turns.proofs.Lent.{seen, part-long}
-use borrow.Author.Rules.{rules}
 use Rattle.turns.proofs.pair.stray_at.Goals as goal
 
 pub of-requires : goal.of-requires

@@ -1,9 +1,7 @@
-use Prim.Native.Nat.{◌-◌}
 use mathlib.Core.Path.{refl, sym, ◌∙◌}
-use mathlib.Core.Logic.{inl, inr}
+use mathlib.Core.Logic.{inl}
 use native.Mathlib.Omega.{arith}
-use lib.ListN.{length}
-use Rattle.turns.proofs.Pairs.{Along, Named, begins, passed, stayed, goes_on_lem, ends, spent}
+use Rattle.turns.proofs.Pairs.{Named, begins, passed, stayed, goes_on_lem, ends, spent}
 use borrow.Author.Rules.{rules}
 use Rattle.turns.proofs.pair.take.Goals as goal
 use Rattle.turns.proofs.pair.take.Goals.{then-schedule-n, else-schedule-n}

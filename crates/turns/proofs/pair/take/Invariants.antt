@@ -1,10 +1,6 @@
 use Prim.Native.Nat.{◌-◌}
-use mathlib.Core.Path.{refl, sym, ◌∙◌}
-use mathlib.Core.Logic.{inl, inr, ⊎_elim}
-use native.Mathlib.Omega.{arith}
 use lib.ListN.{length}
-use Rattle.turns.proofs.Pairs.{Along, begins, passed, stayed, goes_on_lem, ends, spent}
-use borrow.Author.Rules.{rules}
+use Rattle.turns.proofs.Pairs.{Along}
 use Rattle.turns.proofs.pair.take.Given as goal
 
 abbrev pub invariant-loop-n : goal.invariant-loop-n

@@ -1,10 +1,7 @@
-use Prim.Native.Nat.{◌-◌}
 use mathlib.Core.Path.{refl, sym, ◌∙◌}
 use native.Mathlib.Omega.{arith}
-use lib.ListN.{length}
 use Rattle.machine.specs.declared.Stray.TheVariants.{Clean}
-use Rattle.turns.specs.Pair.{came_end}
-use Rattle.turns.proofs.Pairs.{Turning, turning, turned-out, last_step, both, memory-long, next-step, not-true, not-false}
+use Rattle.turns.proofs.Pairs.{turning, turned-out, last_step, both, memory-long, next-step, not-true, not-false}
 use borrow.Author.Rules.{rules}
 use Rattle.turns.proofs.pair.take_schedule.Goals as goal
 

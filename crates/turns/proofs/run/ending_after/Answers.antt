@@ -1,4 +1,3 @@
-use borrow.Author.Rules.{rules}
 use Rattle.turns.proofs.run.ending_after.Goals as goal
 
 pub returns-in-NotHeld : goal.returns-in-NotHeld

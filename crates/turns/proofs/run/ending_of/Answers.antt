@@ -1,4 +1,3 @@
-use borrow.Author.Rules.{rules}
 use Rattle.turns.proofs.run.ending_of.Goals as goal
 
 pub returns-in-Refused : goal.returns-in-Refused

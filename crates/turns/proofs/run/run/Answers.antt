@@ -1,6 +1,5 @@
 use mathlib.Core.Path.{refl, ◌∙◌, ap}
 use Rattle.turns.proofs.Runs.{ended_as, run_is}
-use borrow.Author.Rules.{rules}
 use Rattle.turns.proofs.run.run.Goals as goal
 
 pub returns : goal.returns
