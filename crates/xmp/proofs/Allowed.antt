@@ -30,6 +30,10 @@ use Rattle.turns.specs.Turn.{Fitting}
 use Rattle.turns.specs.Pair.{Both}
 use Rattle.xmp.specs.Reply.{reply_of}
 
+-- two ensures of one call: what it gives, and the numbers of its answer
+pub told : {A B : Type 0} (f : A → B) (a b : A) → a ≡ b → (a ≡ b) × (f a ≡ f b)
+told f a b e = (e, ap f e)
+
 -- none of the tests of a call that is not refused holds
 passed : (n : ℕ) (b : Bool) (l : List Check) → (n ≡ 0 → ⊥) → first_due (check n b ∷ l) ≡ 0 → (b ≡ false) × (first_due l ≡ 0)
 unfolding first_due

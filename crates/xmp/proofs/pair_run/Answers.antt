@@ -1,8 +1,8 @@
 use borrow.Author.Tests.{ne_eqb}
-use mathlib.Core.Path.{sym, ap, ◌∙◌}
+use mathlib.Core.Path.{sym, ◌∙◌}
 use Rattle.machine.specs.Call.{pair_call}
 use Rattle.xmp.specs.Reply.{pair_numbers}
-use Rattle.xmp.proofs.Allowed.{pair-allowed}
+use Rattle.xmp.proofs.Allowed.{pair-allowed, told}
 use borrow.Author.Rules.{rules}
 use Rattle.xmp.proofs.pair_run.Goals as goal
 
@@ -18,4 +18,4 @@ take_schedule-requires c =
 pub returns : goal.returns
 unfolding pair_call
 returns c =
-    record { call = rw (← c.of_pair-no.ensures, c.if-no-ne0.false) c.take_schedule.ensures; numbers = rw (← c.of_pair-no.ensures, c.if-no-ne0.false) (ap pair_numbers c.take_schedule.ensures) }
+    record { call = rw (← c.of_pair-no.ensures, c.if-no-ne0.false) c.take_schedule.ensures; numbers = rw (← c.of_pair-no.ensures, c.if-no-ne0.false) (told pair_numbers _ _ c.take_schedule.ensures).1 }

@@ -1,8 +1,8 @@
 use borrow.Author.Tests.{ne_eqb}
-use mathlib.Core.Path.{sym, ap, ◌∙◌}
+use mathlib.Core.Path.{sym, ◌∙◌}
 use Rattle.machine.specs.Call.{run_call}
 use Rattle.xmp.specs.Reply.{run_numbers}
-use Rattle.xmp.proofs.Allowed.{run-allowed}
+use Rattle.xmp.proofs.Allowed.{run-allowed, told}
 use borrow.Author.Rules.{rules}
 use Rattle.xmp.proofs.run.Goals as goal
 
@@ -18,4 +18,4 @@ run-requires c =
 pub returns : goal.returns
 unfolding run_call
 returns c =
-    record { call = rw (← c.of_run-no.ensures, c.if-no-ne0.false) c.run.ensures; numbers = rw (← c.of_run-no.ensures, c.if-no-ne0.false) (ap run_numbers c.run.ensures) }
+    record { call = rw (← c.of_run-no.ensures, c.if-no-ne0.false) c.run.ensures; numbers = rw (← c.of_run-no.ensures, c.if-no-ne0.false) (told run_numbers _ _ c.run.ensures).1 }

@@ -1,9 +1,9 @@
 use borrow.Author.Tests.{ne_eqb}
-use mathlib.Core.Path.{sym, ap, ◌∙◌}
+use mathlib.Core.Path.{sym, ◌∙◌}
 use native.Mathlib.Omega.{arith}
 use Rattle.machine.specs.Call.{step_call}
 use Rattle.xmp.specs.Reply.{step_numbers}
-use Rattle.xmp.proofs.Allowed.{step-allowed, stepped}
+use Rattle.xmp.proofs.Allowed.{step-allowed, stepped, told}
 use borrow.Author.Rules.{rules}
 use Rattle.xmp.proofs.step.Goals as goal
 
@@ -21,5 +21,5 @@ unfolding step_call
 returns c =
     let step = stepped _ _ _ _ _ _ _ c.turn-turned.ensures in record {
       call = rw (← c.of_step-no.ensures, c.if-no-ne0.false, c.reply_of.ensures) step;
-      numbers = rw (← c.of_step-no.ensures, c.if-no-ne0.false, c.reply_of.ensures) (ap step_numbers step);
+      numbers = rw (← c.of_step-no.ensures, c.if-no-ne0.false, c.reply_of.ensures) (told step_numbers _ _ step).1;
     }

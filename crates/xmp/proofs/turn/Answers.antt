@@ -1,8 +1,8 @@
 use borrow.Author.Tests.{ne_eqb}
-use mathlib.Core.Path.{sym, ap, ◌∙◌}
+use mathlib.Core.Path.{sym, ◌∙◌}
 use Rattle.machine.specs.Call.{turn_call}
 use Rattle.xmp.specs.Reply.{turn_numbers}
-use Rattle.xmp.proofs.Allowed.{run-allowed}
+use Rattle.xmp.proofs.Allowed.{run-allowed, told}
 use borrow.Author.Rules.{rules}
 use Rattle.xmp.proofs.turn.Goals as goal
 
@@ -18,4 +18,4 @@ turn-requires c =
 pub returns : goal.returns
 unfolding turn_call
 returns c =
-    record { call = rw (← c.of_run-no.ensures, c.if-no-ne0.false) c.turn.ensures; numbers = rw (← c.of_run-no.ensures, c.if-no-ne0.false) (ap turn_numbers c.turn.ensures) }
+    record { call = rw (← c.of_run-no.ensures, c.if-no-ne0.false) c.turn.ensures; numbers = rw (← c.of_run-no.ensures, c.if-no-ne0.false) (told turn_numbers _ _ c.turn.ensures).1 }
