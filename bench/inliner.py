@@ -8,6 +8,8 @@ import tempfile
 
 import host
 
+PROGRAM = os.path.join(host.ROOT, "crates", "sheet")
+
 # The functions on the way of each step, which must all be inlined into one loop.
 STEP = r"dispatch::work|dispatch::from_\d+|turns::take_burst"
 
@@ -15,8 +17,8 @@ STEP = r"dispatch::work|dispatch::from_\d+|turns::take_burst"
 def left():
     """Units of the inliner's budget, or nothing if they can't be had.
 
-    `rt try` compiles the sources at -O3 as `rt check` does. Here the same is done
-    with a compiler that also says what it inlined.
+    The program is built as `rt run` builds it, but with a compiler that also says what
+    it inlined.
     """
     said = remarks()
     if re.search(rf"'({STEP})' not inlined", said):
@@ -33,12 +35,11 @@ def remarks():
     kit = host.kit()
     if not kit:
         return ""
-    own = os.path.join(kit, "on", host.MACHINE)
     with tempfile.TemporaryDirectory() as folder:
-        said = talking(folder, os.path.join(own, "toolchain"))
-        command = [os.path.join(own, "bin", "rattle-cases"), "--toolchain", folder]
-        command += sources(os.path.join(kit, "libs"), os.path.join(host.ROOT, "crates"))
-        subprocess.run(command, capture_output=True)
+        said = talking(folder, os.path.join(kit, "toolchain"))
+        # The first builds the libraries below, and keeps the proofs.
+        for command in (["rt", "run"], building(kit, folder)):
+            subprocess.run(command, cwd=PROGRAM, stdin=subprocess.DEVNULL, capture_output=True)
         if not os.path.exists(said):
             return ""
         with open(said) as file:
@@ -58,15 +59,32 @@ def talking(folder, tools):
     return said
 
 
-def sources(libraries, crates):
-    """The program's source, and the libraries that it may use, as words of a command."""
-    words = [os.path.join(crates, "sheet", "src", "main.rt"), "--crate-name", "sheet"]
-    for folder in (libraries, crates):
-        for name in sorted(os.listdir(folder)):
-            path = os.path.join(folder, name, "src", "lib.rt")
-            if os.path.exists(path):
-                words += ["--lib", f"{name}={path}"]
-    return words
+def building(kit, folder):
+    """The command that builds the program, in its folder, with the compiler of another folder."""
+    uses = listed()
+    below = dict.fromkeys(it for name in uses["sheet"] for it in reached(uses, name))
+    words = [os.path.join(kit, "bin", "rattle"), "build", "--crate-name", "sheet", "src/main.rt"]
+    words += ["--extern", f"std={kit}/rlibs/std.rlib", "-L", f"dependency={kit}/rlibs"]
+    for name in uses["sheet"]:
+        words += ["--extern", f"{name}=../{name}/out/rlib/{name}.rlib"]
+    for name in below:
+        words += ["-L", f"dependency=../{name}/out/rlib"]
+    words += ["--antt-project", f"{kit}/rattle/logic/antt-project.json"]
+    words += ["--logic-built", f"{kit}/logic_built", "--links", "sheet="]
+    words += ["--toolchain", folder, "--backend", "llvm", "--incremental", "out/incremental"]
+    return words + ["-o", os.path.join(folder, "sheet.o")]
+
+
+def listed():
+    """The crates that each crate uses, by crates.txt."""
+    with open(os.path.join(host.ROOT, "crates.txt")) as file:
+        lines = [line.split(":") for line in file if ":" in line and not line.startswith("#")]
+    return {name.split()[0]: used.split() for name, used in lines}
+
+
+def reached(uses, name):
+    """The crates below one, and itself."""
+    return [it for used in uses[name] for it in reached(uses, used)] + [name]
 
 
 TALKING = """#!/bin/sh
