@@ -1,5 +1,5 @@
 #!/usr/bin/env python3
-"""Respells this repository's own definitions, lemmas and constructors after /opt/rattle/port/port.py: words in snake case.
+"""Respells this repository's own definitions, lemmas and constructors after port.py of the kit: words in snake case.
 
 usage: tools/respell.py [--check] [FOLDER]
 
