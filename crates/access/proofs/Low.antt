@@ -1,5 +1,6 @@
 -- Words that were set in one loop from place 0 on; the first 32 of a processor, which are all but B, T and V. Assumes nothing.
-use Rattle.std.proofs.Common.{◌≡◌, ℕ, zero, suc, ◌<◌, ◌≤◌, Bool, true, false, eqb, List, length, get_or, set, sym, refl, ◌∙◌, not-suc-le-zero, zero-add, arith, get_or-set_other, get_or-set_same, eqb-true}
+use Rattle.std.proofs.Common.{◌≡◌, ℕ, zero, suc, ◌<◌, ◌≤◌, Bool, true, false, eqb, List, length, get_or, set, sym, refl, ◌∙◌}
+use Rattle.std.proofs.Common.{not-suc-le-zero, zero-add, arith, get_or-set_other, get_or-set_same, eqb-true}
 use borrow.Author.Tests.{eqb-false}
 use Rattle.machine.specs.State.{fill}
 use Rattle.access.proofs.Places.{fill-length}

@@ -1,6 +1,8 @@
 -- Places: what stands in a part of a processor's words, and what a store at a place makes of it, once for each kind of register.
 -- Assumes nothing.
-use Rattle.std.proofs.Common.{◌≡◌, ℕ, zero, suc, ◌+◌, ◌-◌, ◌*◌, ◌<◌, ◌≤◌, Bool, true, false, eqb, ◌≢◌, ◌⊎◌, List, length, get_or, take, drop, set, sym, refl, ap, ◌∙◌, inl, inr, ⊎_elim, add-one, arith, length-set, get_or-drop, get_or-set_other, get_or-take, get_or-set_same, drop-set-lt, rules, eqb-true}
+use Rattle.std.proofs.Common.{◌≡◌, ℕ, zero, suc, ◌+◌, ◌-◌, ◌*◌, ◌<◌, ◌≤◌, Bool, true, false, eqb, ◌≢◌, ◌⊎◌, List, length, get_or}
+use Rattle.std.proofs.Common.{take, drop, set, sym, refl, ap, ◌∙◌, inl, inr, ⊎_elim, add-one, arith, length-set, get_or-drop}
+use Rattle.std.proofs.Common.{get_or-set_other, get_or-take, get_or-set_same, drop-set-lt, rules, eqb-true}
 use borrow.Author.Tests.{eqb-false}
 use lib.Seq.{take-set-lt, take-set-le, drop-set-add}
 use Rattle.machine.specs.Word.{pick}

@@ -1,5 +1,7 @@
 -- The window of a field is the rule of the definitions; what is fetched through it. Assumes nothing.
-use Rattle.std.proofs.Common.{◌≡◌, ℕ, zero, suc, ◌+◌, ◌-◌, ◌*◌, ◌/◌, ◌%◌, ◌^◌, ◌<◌, ◌≤◌, Bool, true, false, ltb, leb, List, length, get_or, take, drop, sym, refl, ◌∙◌, arith, length-drop, length-take-le, get_or-drop, get_or-take, ltb-false, ltb-true, le-ltb, leb-false, leb-true}
+use Rattle.std.proofs.Common.{◌≡◌, ℕ, zero, suc, ◌+◌, ◌-◌, ◌*◌, ◌/◌, ◌%◌, ◌^◌, ◌<◌, ◌≤◌, Bool, true, false, ltb, leb, List, length}
+use Rattle.std.proofs.Common.{get_or, take, drop, sym, refl, ◌∙◌, arith, length-drop, length-take-le, get_or-drop, get_or-take}
+use Rattle.std.proofs.Common.{ltb-false, ltb-true, le-ltb, leb-false, leb-true}
 use borrow.Author.Tests.{lt-leb}
 use Rattle.machine.specs.declared.Reach.{Reach}
 use Rattle.machine.specs.declared.ParcelAddr.{ParcelAddr}

@@ -18,7 +18,8 @@ use Rattle.spelling.specs.Listing.{data_line, line_with, line_of}
 use Rattle.spelling.specs.Candidate.{Guess, guess_of}
 use Rattle.spelling.proofs.Lines.{data-length}
 use Rattle.spelling.proofs.Texts.{begins-with}
-use Rattle.spelling.specs.Assembling.{begins, Line, line_good, line_bad, line_is, if_last, line_by, read_line, Reading, all_read, wrong, before, on_line, read_from, read_of}
+use Rattle.spelling.specs.Assembling.{begins, Line, line_good, line_bad, line_is, if_last, line_by, read_line, Reading, all_read}
+use Rattle.spelling.specs.Assembling.{wrong, before, on_line, read_from, read_of}
 
 -- a number, an operand and a word have a byte each, and so a line has two
 

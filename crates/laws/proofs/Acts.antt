@@ -14,7 +14,8 @@ use borrow.Author.Tests.{eqb-false}
 use Rattle.machine.specs.Word.{pick, sum24, difference24, product24, sum64, difference64, merge, shift_left, shift_right}
 use Rattle.machine.specs.Word.{shift_left_pair, shift_right_pair, ones_left, ones_right, parity, signed, minus24, minus64, length_of}
 use Rattle.machine.specs.Parcel.{i_of, j_of, k_of, jk_of, ijkm_of}
-use Rattle.machine.specs.State.{Registers, ai, ak, si, sj, sk, el, Put, nothing, to_a, to_s, to_b, to_t, to_bs, to_ts, to_v, to_element, to_vl, to_vm, to_xa, to_ior, to_bdm}
+use Rattle.machine.specs.State.{Registers, ai, ak, si, sj, sk, el, Put, nothing, to_a, to_s, to_b, to_t, to_bs, to_ts, to_v}
+use Rattle.machine.specs.State.{to_element, to_vl, to_vm, to_xa, to_ior, to_bdm}
 use Rattle.machine.specs.Act.{Instr, Act, does, goes, reads_words, writes_words, leaves_normally, leaves_by_error, branch, masked, marks_of, act}
 use Rattle.machine.specs.Act as I
 use Rattle.machine.specs.Refusal.{below}

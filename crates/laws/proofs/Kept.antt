@@ -254,7 +254,8 @@ step-processor st sh =
 
 -- what every step keeps, a turn keeps, and a run
 module _ (Q : State → Shared → Type 0) (step : (st : State) (sh : Shared) → Q st sh → Q (step_of st sh).state (step_of st sh).shared) where
-  pub turn-keeps : (budget : ℕ) (l : Last) (s : Stray) (n : ℕ) (st : State) (sh : Shared) → Q st sh → Q (turn_of budget l s n st sh).state (turn_of budget l s n st sh).shared
+  pub turn-keeps : (budget : ℕ) (l : Last) (s : Stray) (n : ℕ) (st : State) (sh : Shared) → Q st sh → Q
+      (turn_of budget l s n st sh).state (turn_of budget l s n st sh).shared
   unfolding turn_of
   turn-keeps zero l s n st sh q = q
   turn-keeps (suc budget) l s n st sh q =

@@ -1,6 +1,7 @@
 -- The data field as a window: what is read and stored by places is what the definitions read and store by addresses, and what they perform.
 -- Assumes nothing.
-use Rattle.std.proofs.Common.{◌≡◌, ℕ, zero, suc, ◌+◌, ◌-◌, ◌*◌, ◌%◌, ◌^◌, Bool, true, false, ◌||◌, eqb, leb, List, length, set, sym, refl, ap, ◌∙◌, arith, length-set, leb-true}
+use Rattle.std.proofs.Common.{◌≡◌, ℕ, zero, suc, ◌+◌, ◌-◌, ◌*◌, ◌%◌, ◌^◌, Bool, true, false, ◌||◌, eqb, leb, List, length, set, sym}
+use Rattle.std.proofs.Common.{refl, ap, ◌∙◌, arith, length-set, leb-true}
 use mathlib.Core.Path.{fun_ext}
 use Rattle.machine.specs.declared.Place.{Place}
 use Rattle.machine.specs.declared.Place.TheVariants.{Inside, Outside}

@@ -1,5 +1,6 @@
 -- 034 to 037, 176 and 177: from the row that was moved to what the definitions say of the code. Assumes nothing.
-use Rattle.std.proofs.Common.{◌≡◌, ℕ, zero, suc, ◌+◌, ◌*◌, ◌/◌, ◌%◌, ◌^◌, ◌<◌, ◌≤◌, Bool, true, false, List, length, get_or, sym, refl, ap, ◌∙◌, subst, arith, get_or-set_same, le-ltb, lt-ltb}
+use Rattle.std.proofs.Common.{◌≡◌, ℕ, zero, suc, ◌+◌, ◌*◌, ◌/◌, ◌%◌, ◌^◌, ◌<◌, ◌≤◌, Bool, true, false, List, length, get_or, sym}
+use Rattle.std.proofs.Common.{refl, ap, ◌∙◌, subst, arith, get_or-set_same, le-ltb, lt-ltb}
 use mathlib.Core.Path.{fun_ext}
 use Rattle.machine.specs.Word.{pick}
 use Rattle.machine.specs.Parcel.{i_of, j_of, k_of, jk_of}
@@ -142,14 +143,16 @@ module _ (b : Bool) (r mem : List ℕ) (first words x : ℕ) (o : Bool) (h : Win
   pub block-read : (r' : List ℕ) → length r' ≡ 672 → x / 512 ≡ pick b 0o034 0o036
       → ReadRow r r' mem first words (ai (registers_of r) 0) 1 (pick b 32 96) (jk_of x) count b o → Moved o r r' mem mem x
   block-read r' long e g =
-      row_read (block_read b) count 1 r mem first words x o h (read-code b (user (frame_of r)) x e) (block-has (registers_of r) x (low-code b (x / 512) 0o034 0o036 e (omega arith) (omega arith)))
+      row_read (block_read b) count 1 r mem first words x o h (read-code b (user (frame_of r)) x e)
+      (block-has (registers_of r) x (low-code b (x / 512) 0o034 0o036 e (omega arith) (omega arith)))
       g.beyond (to_block b (jk_of x) count) r' long
       (λ p. read-act b (registers_of r) _ x 0 _) (λ f. block-kept b (jk_of x) count f (registers_of r)) (block-puts b r r' (jk_of x) count _ g.became)
 
   pub block-stored : (mem' : List ℕ) → length r ≡ 672 → x / 512 ≡ pick b 0o035 0o037
       → StoredRow r mem mem' first words (ai (registers_of r) 0) 1 (pick b 32 96) (jk_of x) count o → Moved o r r mem mem' x
   block-stored mem' long e g =
-      row-stored (block_stored b) count 1 r mem first words x o h (stored-code b (user (frame_of r)) x e) (block-has (registers_of r) x (low-code b (x / 512) 0o035 0o037 e (omega arith) (omega arith)))
+      row-stored (block_stored b) count 1 r mem first words x o h (stored-code b (user (frame_of r)) x e)
+      (block-has (registers_of r) x (low-code b (x / 512) 0o035 0o037 e (omega arith) (omega arith)))
       g.beyond (from_block b (registers_of r) (jk_of x)) mem' long
       (λ p. stored-act b (registers_of r) _ x 0 _)
       (g.became ∙ ap (λ (val : ℕ → ℕ). stores_at (row_in first words (ai (registers_of r) 0) 1) val count mem) (block-from b r (jk_of x)))

@@ -120,7 +120,8 @@ pub same_text : (text ps : List ℕ) → octal_of text ≡ all_read ps → parce
 unfolding octal_of
 same_text text ps e = go (eqb (first_bad text) 0) refl e
   where
-    go : (t : Bool) → eqb (first_bad text) 0 ≡ t → pick t (all_read (parcels_from (length text / 7) text 0)) (wrong (first_bad text)) ≡ all_read ps → parcels_text ps ≡ text
+    go : (t : Bool) → eqb (first_bad text) 0 ≡ t → pick t (all_read (parcels_from (length text / 7) text 0))
+        (wrong (first_bad text)) ≡ all_read ps → parcels_text ps ≡ text
     go true f g =
         let ps-are : parcels_from (length text / 7) text 0 ≡ ps = cc in
         rw (← ps-are) (same_from text (length text / 7) (length text) 0 1 (omega arith) (eqb-true _ _ f) (omega arith) (omega arith))

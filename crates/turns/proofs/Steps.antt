@@ -212,7 +212,8 @@ some_after (suc n) h = refl
 
 -- after an operand outside: MM clear and IOR set, or not
 module _ (r : List ℕ) (p : ℕ) (s : Stray) (sh : Shared) where
-  pub ranged-leaves : get_or r 8 0 ≡ 0 → eqb (get_or r 9 0) 1 ≡ true → ranged (frame_of r) (registers_of r) p s sh ≡ exchange (frame_of r) (registers_of r) p operand_range s sh
+  pub ranged-leaves : get_or r 8 0 ≡ 0 → eqb (get_or r 9 0) 1 ≡ true → ranged (frame_of r) (registers_of r) p s sh ≡ exchange
+      (frame_of r) (registers_of r) p operand_range s sh
   unfolding ranged frame_of registers_of
   ranged-leaves e f = rw (e, f)
 

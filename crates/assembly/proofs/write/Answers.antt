@@ -26,7 +26,9 @@ loop-at-preserved c =
       c.put_next-next.ensures.at_value.2,
       c.put_next-next.auto.out ∙ c.loop-at.invariant.1,
       omega (arith, n, c.put_next-next.ensures.wrote.place, c.loop-at.invariant.2),
-      λ k q w. c.loop-at.invariant.3 k q (wrote_as (list-from c.args.parcels.now c.loop-at.at c.loop-at-test.true _ c.put_next-next.ensures.at_value.0) (then c.put_next-next.ensures.wrote w)),
+      λ k q w. c.loop-at.invariant.3 k q (wrote_as
+          (list-from c.args.parcels.now c.loop-at.at c.loop-at-test.true _ c.put_next-next.ensures.at_value.0)
+          (then c.put_next-next.ensures.wrote w)),
     )
 
 pub shape_of-out : goal.shape_of-out

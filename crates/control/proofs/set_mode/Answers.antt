@@ -66,4 +66,5 @@ pub returns-in_default : goal.returns-in_default
 returns-in_default c =
     λ p mem. not-held _ mem p _
     (mode _ _ _ _ _ c.requires c.i.ensures refl
-    ∙ no_mode _ c.in_default.in_default-own.rest.0.0.0.0.1 c.in_default.in_default-own.rest.0.0.0.1 c.in_default.in_default-own.rest.0.0.1 c.in_default.in_default-own.rest.0.1 c.in_default.in_default-own.rest.1)
+    ∙ no_mode _ c.in_default.in_default-own.rest.0.0.0.0.1 c.in_default.in_default-own.rest.0.0.0.1
+    c.in_default.in_default-own.rest.0.0.1 c.in_default.in_default-own.rest.0.1 c.in_default.in_default-own.rest.1)

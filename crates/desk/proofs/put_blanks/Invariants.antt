@@ -8,7 +8,8 @@ use Rattle.desk.proofs.put_blanks.Given as goal
 
 abbrev pub invariant-loop-i : goal.invariant-loop-i
 invariant-loop-i l =
-    (l.i ≤ l.n) × (length l.out ≡ length l.initial.out) × ((m : List ℕ) (q : ℕ) → Wrote l.out (l.at + l.i) (blanks (l.n - l.i)) m q → Wrote l.initial.out l.at (blanks l.n) m q)
+    (l.i ≤ l.n) × (length l.out ≡ length l.initial.out) ×
+    ((m : List ℕ) (q : ℕ) → Wrote l.out (l.at + l.i) (blanks (l.n - l.i)) m q → Wrote l.initial.out l.at (blanks l.n) m q)
 
 abbrev pub decreases-loop-i : goal.decreases-loop-i
 decreases-loop-i l = l.n - l.i

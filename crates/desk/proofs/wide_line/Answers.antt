@@ -85,7 +85,9 @@ returns-then-parcels-lt2 c =
     ∙ c.has_second.ensures) in record {
       wrote = (
         wrote_as
-            (wide-data _ _ c.if-parcels-lt1.false c.if-parcels-lt2.true second) (then (then (then c.put_column-column.ensures.0 c.put_blanks-first.ensures.0) c.put_one-cal-then-parcels-lt2.ensures.0) c.put_data.ensures.0),
+            (wide-data _ _ c.if-parcels-lt1.false c.if-parcels-lt2.true second)
+            (then (then (then c.put_column-column.ensures.0 c.put_blanks-first.ensures.0)
+            c.put_one-cal-then-parcels-lt2.ensures.0) c.put_data.ensures.0),
         omega (
           arith,
           c.put_column-column.ensures.1,

@@ -85,7 +85,12 @@ pub from_040-requires : goal.from_040-requires
 from_040-requires c =
     record {
       ready = c.requires.ready;
-      x_bound = (c.requires.x_bound.0, c.requires.x_bound.1, past-020 _ _ c.requires.x_bound.0 c.requires.x_bound.1 c.requires.x_bound.2 c.in_default.in_default-own.rest);
+      x_bound = (
+        c.requires.x_bound.0,
+        c.requires.x_bound.1,
+        past-020 _ _ c.requires.x_bound.0 c.requires.x_bound.1
+            c.requires.x_bound.2 c.in_default.in_default-own.rest,
+      );
     }
 
 pub returns-in-16 : goal.returns-in-16

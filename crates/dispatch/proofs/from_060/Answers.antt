@@ -41,7 +41,12 @@ pub from_100-requires : goal.from_100-requires
 from_100-requires c =
     record {
       ready = c.requires.ready;
-      x_bound = (c.requires.x_bound.0, c.requires.x_bound.1, past-060 _ _ c.requires.x_bound.0 c.requires.x_bound.1 c.requires.x_bound.2 c.in_default.in_default-own.rest);
+      x_bound = (
+        c.requires.x_bound.0,
+        c.requires.x_bound.1,
+        past-060 _ _ c.requires.x_bound.0 c.requires.x_bound.1
+            c.requires.x_bound.2 c.in_default.in_default-own.rest,
+      );
     }
 
 pub returns-in-48 : goal.returns-in-48

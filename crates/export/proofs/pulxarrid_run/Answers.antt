@@ -9,9 +9,11 @@ use Rattle.export.proofs.pulxarrid_run.Goals as goal
 pub returns-then-n-ne0 : goal.returns-then-n-ne0
 returns-then-n-ne0 c =
     rw (← c.run-ran.ensures.call) (refused-left _ (ending_numbers c.run-ran.result.ending) c.of_ending-n.ensures
-    (λ (l : List ℕ). get_or l 1 0 ∷ get_or l 2 0 ∷ c.run-ran.result.steps ∷ cause (stray_numbers c.run-ran.result.stray) ∷ element (stray_numbers c.run-ran.result.stray) ∷ []) _ _ _ c.if-n-ne0.true)
+    (λ (l : List ℕ). get_or l 1 0 ∷ get_or l 2 0 ∷ c.run-ran.result.steps
+    ∷ cause (stray_numbers c.run-ran.result.stray) ∷ element (stray_numbers c.run-ran.result.stray) ∷ []) _ _ _ c.if-n-ne0.true)
 
 pub returns : goal.returns
 returns c =
     rw (← c.run-ran.ensures.call, ← c.of_stray-s.ensures) (made-left _ (ending_numbers c.run-ran.result.ending) c.of_ending-n.ensures
-    (λ (l : List ℕ). get_or l 1 0 ∷ get_or l 2 0 ∷ c.run-ran.result.steps ∷ cause c.of_stray-s.result ∷ element c.of_stray-s.result ∷ []) _ _ c.args.report.now c.if-n-ne0.false)
+    (λ (l : List ℕ). get_or l 1 0 ∷ get_or l 2 0 ∷ c.run-ran.result.steps
+    ∷ cause c.of_stray-s.result ∷ element c.of_stray-s.result ∷ []) _ _ c.args.report.now c.if-n-ne0.false)

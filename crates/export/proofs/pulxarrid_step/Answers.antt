@@ -9,9 +9,11 @@ use Rattle.export.proofs.pulxarrid_step.Goals as goal
 pub returns-then-n-ne0 : goal.returns-then-n-ne0
 returns-then-n-ne0 c =
     rw (← c.step-replied.ensures.call) (refused-left _ (reply_numbers c.step-replied.result.reply) c.of_reply-n.ensures
-    (λ (l : List ℕ). get_or l 1 0 ∷ get_or l 2 0 ∷ cause (stray_numbers c.step-replied.result.stray) ∷ element (stray_numbers c.step-replied.result.stray) ∷ []) _ _ _ c.if-n-ne0.true)
+    (λ (l : List ℕ). get_or l 1 0 ∷ get_or l 2 0
+    ∷ cause (stray_numbers c.step-replied.result.stray) ∷ element (stray_numbers c.step-replied.result.stray) ∷ []) _ _ _ c.if-n-ne0.true)
 
 pub returns : goal.returns
 returns c =
     rw (← c.step-replied.ensures.call, ← c.of_stray-s.ensures) (made-left _ (reply_numbers c.step-replied.result.reply) c.of_reply-n.ensures
-    (λ (l : List ℕ). get_or l 1 0 ∷ get_or l 2 0 ∷ cause c.of_stray-s.result ∷ element c.of_stray-s.result ∷ []) _ _ c.args.answer.now c.if-n-ne0.false)
+    (λ (l : List ℕ). get_or l 1 0 ∷ get_or l 2 0
+    ∷ cause c.of_stray-s.result ∷ element c.of_stray-s.result ∷ []) _ _ c.args.answer.now c.if-n-ne0.false)

@@ -36,13 +36,15 @@ put_signs-head-requires-in-OfTwo c = signs-fit c.requires c.in-OfTwo.is
 pub put_part-after_a-requires : goal.put_part-after_a-requires
 unfolding row_in operands_held
 put_part-after_a-requires c =
-    let s0 = spelling c.requires c.in-OfTwo.is c.put_signs-head-in-OfTwo.result.from (c.put_signs-head-in-OfTwo.ensures.wrote, c.put_signs-head-in-OfTwo.ensures.rest) c.put_signs-head-in-OfTwo.auto.line in
+    let s0 = spelling c.requires c.in-OfTwo.is c.put_signs-head-in-OfTwo.result.from
+    (c.put_signs-head-in-OfTwo.ensures.wrote, c.put_signs-head-in-OfTwo.ensures.rest) c.put_signs-head-in-OfTwo.auto.line in
     part-fits s0
 
 pub put_part-requires-in-OfTwo : goal.put_part-requires-in-OfTwo
 unfolding row_in operands_held
 put_part-requires-in-OfTwo c =
-    let s0 = spelling c.requires c.in-OfTwo.is c.put_signs-head-in-OfTwo.result.from (c.put_signs-head-in-OfTwo.ensures.wrote, c.put_signs-head-in-OfTwo.ensures.rest) c.put_signs-head-in-OfTwo.auto.line in
+    let s0 = spelling c.requires c.in-OfTwo.is c.put_signs-head-in-OfTwo.result.from
+    (c.put_signs-head-in-OfTwo.ensures.wrote, c.put_signs-head-in-OfTwo.ensures.rest) c.put_signs-head-in-OfTwo.auto.line in
     let s1 = part-next c.put_part-after_a.result.from s0 (c.put_part-after_a.ensures.wrote, c.put_part-after_a.ensures.rest) c.put_part-after_a.auto.line in
     part-fits s1
 
@@ -57,21 +59,31 @@ put_signs-head-requires-in-OfThree c = signs-fit c.requires c.in-OfThree.is
 pub put_part-after_a-requires-in-OfThree : goal.put_part-after_a-requires-in-OfThree
 unfolding row_in operands_held
 put_part-after_a-requires-in-OfThree c =
-    let s0 = spelling c.requires c.in-OfThree.is c.put_signs-head-in-OfThree.result.from (c.put_signs-head-in-OfThree.ensures.wrote, c.put_signs-head-in-OfThree.ensures.rest) c.put_signs-head-in-OfThree.auto.line in
+    let s0 = spelling c.requires c.in-OfThree.is c.put_signs-head-in-OfThree.result.from
+    (c.put_signs-head-in-OfThree.ensures.wrote, c.put_signs-head-in-OfThree.ensures.rest) c.put_signs-head-in-OfThree.auto.line
+    in
     part-fits s0
 
 pub put_part-after_b-requires : goal.put_part-after_b-requires
 unfolding row_in operands_held
 put_part-after_b-requires c =
-    let s0 = spelling c.requires c.in-OfThree.is c.put_signs-head-in-OfThree.result.from (c.put_signs-head-in-OfThree.ensures.wrote, c.put_signs-head-in-OfThree.ensures.rest) c.put_signs-head-in-OfThree.auto.line in
-    let s1 = part-next c.put_part-after_a-in-OfThree.result.from s0 (c.put_part-after_a-in-OfThree.ensures.wrote, c.put_part-after_a-in-OfThree.ensures.rest) c.put_part-after_a-in-OfThree.auto.line in
+    let s0 = spelling c.requires c.in-OfThree.is c.put_signs-head-in-OfThree.result.from
+    (c.put_signs-head-in-OfThree.ensures.wrote, c.put_signs-head-in-OfThree.ensures.rest) c.put_signs-head-in-OfThree.auto.line
+    in
+    let s1 = part-next c.put_part-after_a-in-OfThree.result.from s0
+    (c.put_part-after_a-in-OfThree.ensures.wrote, c.put_part-after_a-in-OfThree.ensures.rest)
+    c.put_part-after_a-in-OfThree.auto.line in
     part-fits s1
 
 pub put_part-requires-in-OfThree : goal.put_part-requires-in-OfThree
 unfolding row_in operands_held
 put_part-requires-in-OfThree c =
-    let s0 = spelling c.requires c.in-OfThree.is c.put_signs-head-in-OfThree.result.from (c.put_signs-head-in-OfThree.ensures.wrote, c.put_signs-head-in-OfThree.ensures.rest) c.put_signs-head-in-OfThree.auto.line in
-    let s1 = part-next c.put_part-after_a-in-OfThree.result.from s0 (c.put_part-after_a-in-OfThree.ensures.wrote, c.put_part-after_a-in-OfThree.ensures.rest) c.put_part-after_a-in-OfThree.auto.line in
+    let s0 = spelling c.requires c.in-OfThree.is c.put_signs-head-in-OfThree.result.from
+    (c.put_signs-head-in-OfThree.ensures.wrote, c.put_signs-head-in-OfThree.ensures.rest) c.put_signs-head-in-OfThree.auto.line
+    in
+    let s1 = part-next c.put_part-after_a-in-OfThree.result.from s0
+    (c.put_part-after_a-in-OfThree.ensures.wrote, c.put_part-after_a-in-OfThree.ensures.rest)
+    c.put_part-after_a-in-OfThree.auto.line in
     let s2 = part-next c.put_part-after_b.result.from s1 (c.put_part-after_b.ensures.wrote, c.put_part-after_b.ensures.rest) c.put_part-after_b.auto.line in
     part-fits s2
 
@@ -86,30 +98,44 @@ put_signs-head-requires-in-OfFour c = signs-fit c.requires c.in-OfFour.is
 pub put_part-after_a-requires-in-OfFour : goal.put_part-after_a-requires-in-OfFour
 unfolding row_in operands_held
 put_part-after_a-requires-in-OfFour c =
-    let s0 = spelling c.requires c.in-OfFour.is c.put_signs-head-in-OfFour.result.from (c.put_signs-head-in-OfFour.ensures.wrote, c.put_signs-head-in-OfFour.ensures.rest) c.put_signs-head-in-OfFour.auto.line in
+    let s0 = spelling c.requires c.in-OfFour.is c.put_signs-head-in-OfFour.result.from
+    (c.put_signs-head-in-OfFour.ensures.wrote, c.put_signs-head-in-OfFour.ensures.rest) c.put_signs-head-in-OfFour.auto.line in
     part-fits s0
 
 pub put_part-after_b-requires-in-OfFour : goal.put_part-after_b-requires-in-OfFour
 unfolding row_in operands_held
 put_part-after_b-requires-in-OfFour c =
-    let s0 = spelling c.requires c.in-OfFour.is c.put_signs-head-in-OfFour.result.from (c.put_signs-head-in-OfFour.ensures.wrote, c.put_signs-head-in-OfFour.ensures.rest) c.put_signs-head-in-OfFour.auto.line in
-    let s1 = part-next c.put_part-after_a-in-OfFour.result.from s0 (c.put_part-after_a-in-OfFour.ensures.wrote, c.put_part-after_a-in-OfFour.ensures.rest) c.put_part-after_a-in-OfFour.auto.line in
+    let s0 = spelling c.requires c.in-OfFour.is c.put_signs-head-in-OfFour.result.from
+    (c.put_signs-head-in-OfFour.ensures.wrote, c.put_signs-head-in-OfFour.ensures.rest) c.put_signs-head-in-OfFour.auto.line in
+    let s1 = part-next c.put_part-after_a-in-OfFour.result.from s0
+    (c.put_part-after_a-in-OfFour.ensures.wrote, c.put_part-after_a-in-OfFour.ensures.rest)
+    c.put_part-after_a-in-OfFour.auto.line in
     part-fits s1
 
 pub put_part-after_c-requires : goal.put_part-after_c-requires
 unfolding row_in operands_held
 put_part-after_c-requires c =
-    let s0 = spelling c.requires c.in-OfFour.is c.put_signs-head-in-OfFour.result.from (c.put_signs-head-in-OfFour.ensures.wrote, c.put_signs-head-in-OfFour.ensures.rest) c.put_signs-head-in-OfFour.auto.line in
-    let s1 = part-next c.put_part-after_a-in-OfFour.result.from s0 (c.put_part-after_a-in-OfFour.ensures.wrote, c.put_part-after_a-in-OfFour.ensures.rest) c.put_part-after_a-in-OfFour.auto.line in
-    let s2 = part-next c.put_part-after_b-in-OfFour.result.from s1 (c.put_part-after_b-in-OfFour.ensures.wrote, c.put_part-after_b-in-OfFour.ensures.rest) c.put_part-after_b-in-OfFour.auto.line in
+    let s0 = spelling c.requires c.in-OfFour.is c.put_signs-head-in-OfFour.result.from
+    (c.put_signs-head-in-OfFour.ensures.wrote, c.put_signs-head-in-OfFour.ensures.rest) c.put_signs-head-in-OfFour.auto.line in
+    let s1 = part-next c.put_part-after_a-in-OfFour.result.from s0
+    (c.put_part-after_a-in-OfFour.ensures.wrote, c.put_part-after_a-in-OfFour.ensures.rest)
+    c.put_part-after_a-in-OfFour.auto.line in
+    let s2 = part-next c.put_part-after_b-in-OfFour.result.from s1
+    (c.put_part-after_b-in-OfFour.ensures.wrote, c.put_part-after_b-in-OfFour.ensures.rest)
+    c.put_part-after_b-in-OfFour.auto.line in
     part-fits s2
 
 pub put_part-requires-in-OfFour : goal.put_part-requires-in-OfFour
 unfolding row_in operands_held
 put_part-requires-in-OfFour c =
-    let s0 = spelling c.requires c.in-OfFour.is c.put_signs-head-in-OfFour.result.from (c.put_signs-head-in-OfFour.ensures.wrote, c.put_signs-head-in-OfFour.ensures.rest) c.put_signs-head-in-OfFour.auto.line in
-    let s1 = part-next c.put_part-after_a-in-OfFour.result.from s0 (c.put_part-after_a-in-OfFour.ensures.wrote, c.put_part-after_a-in-OfFour.ensures.rest) c.put_part-after_a-in-OfFour.auto.line in
-    let s2 = part-next c.put_part-after_b-in-OfFour.result.from s1 (c.put_part-after_b-in-OfFour.ensures.wrote, c.put_part-after_b-in-OfFour.ensures.rest) c.put_part-after_b-in-OfFour.auto.line in
+    let s0 = spelling c.requires c.in-OfFour.is c.put_signs-head-in-OfFour.result.from
+    (c.put_signs-head-in-OfFour.ensures.wrote, c.put_signs-head-in-OfFour.ensures.rest) c.put_signs-head-in-OfFour.auto.line in
+    let s1 = part-next c.put_part-after_a-in-OfFour.result.from s0
+    (c.put_part-after_a-in-OfFour.ensures.wrote, c.put_part-after_a-in-OfFour.ensures.rest)
+    c.put_part-after_a-in-OfFour.auto.line in
+    let s2 = part-next c.put_part-after_b-in-OfFour.result.from s1
+    (c.put_part-after_b-in-OfFour.ensures.wrote, c.put_part-after_b-in-OfFour.ensures.rest)
+    c.put_part-after_b-in-OfFour.auto.line in
     let s3 = part-next c.put_part-after_c.result.from s2 (c.put_part-after_c.ensures.wrote, c.put_part-after_c.ensures.rest) c.put_part-after_c.auto.line in
     part-fits s3
 
@@ -129,7 +155,8 @@ returns-in-OfOne c =
 pub returns-in-OfTwo : goal.returns-in-OfTwo
 unfolding row_in operands_held
 returns-in-OfTwo c =
-    let s0 = spelling c.requires c.in-OfTwo.is c.put_signs-head-in-OfTwo.result.from (c.put_signs-head-in-OfTwo.ensures.wrote, c.put_signs-head-in-OfTwo.ensures.rest) c.put_signs-head-in-OfTwo.auto.line in
+    let s0 = spelling c.requires c.in-OfTwo.is c.put_signs-head-in-OfTwo.result.from
+    (c.put_signs-head-in-OfTwo.ensures.wrote, c.put_signs-head-in-OfTwo.ensures.rest) c.put_signs-head-in-OfTwo.auto.line in
     let s1 = part-next c.put_part-after_a.result.from s0 (c.put_part-after_a.ensures.wrote, c.put_part-after_a.ensures.rest) c.put_part-after_a.auto.line in
     let s2 = part-next c.put_part-in-OfTwo.result.from s1 (c.put_part-in-OfTwo.ensures.wrote, c.put_part-in-OfTwo.ensures.rest) c.put_part-in-OfTwo.auto.line in
     all-parts s2
@@ -137,8 +164,12 @@ returns-in-OfTwo c =
 pub returns-in-OfThree : goal.returns-in-OfThree
 unfolding row_in operands_held
 returns-in-OfThree c =
-    let s0 = spelling c.requires c.in-OfThree.is c.put_signs-head-in-OfThree.result.from (c.put_signs-head-in-OfThree.ensures.wrote, c.put_signs-head-in-OfThree.ensures.rest) c.put_signs-head-in-OfThree.auto.line in
-    let s1 = part-next c.put_part-after_a-in-OfThree.result.from s0 (c.put_part-after_a-in-OfThree.ensures.wrote, c.put_part-after_a-in-OfThree.ensures.rest) c.put_part-after_a-in-OfThree.auto.line in
+    let s0 = spelling c.requires c.in-OfThree.is c.put_signs-head-in-OfThree.result.from
+    (c.put_signs-head-in-OfThree.ensures.wrote, c.put_signs-head-in-OfThree.ensures.rest) c.put_signs-head-in-OfThree.auto.line
+    in
+    let s1 = part-next c.put_part-after_a-in-OfThree.result.from s0
+    (c.put_part-after_a-in-OfThree.ensures.wrote, c.put_part-after_a-in-OfThree.ensures.rest)
+    c.put_part-after_a-in-OfThree.auto.line in
     let s2 = part-next c.put_part-after_b.result.from s1 (c.put_part-after_b.ensures.wrote, c.put_part-after_b.ensures.rest) c.put_part-after_b.auto.line in
     let s3 = part-next c.put_part-in-OfThree.result.from s2 (c.put_part-in-OfThree.ensures.wrote, c.put_part-in-OfThree.ensures.rest) c.put_part-in-OfThree.auto.line in
     all-parts s3
@@ -146,9 +177,14 @@ returns-in-OfThree c =
 pub returns-in-OfFour : goal.returns-in-OfFour
 unfolding row_in operands_held
 returns-in-OfFour c =
-    let s0 = spelling c.requires c.in-OfFour.is c.put_signs-head-in-OfFour.result.from (c.put_signs-head-in-OfFour.ensures.wrote, c.put_signs-head-in-OfFour.ensures.rest) c.put_signs-head-in-OfFour.auto.line in
-    let s1 = part-next c.put_part-after_a-in-OfFour.result.from s0 (c.put_part-after_a-in-OfFour.ensures.wrote, c.put_part-after_a-in-OfFour.ensures.rest) c.put_part-after_a-in-OfFour.auto.line in
-    let s2 = part-next c.put_part-after_b-in-OfFour.result.from s1 (c.put_part-after_b-in-OfFour.ensures.wrote, c.put_part-after_b-in-OfFour.ensures.rest) c.put_part-after_b-in-OfFour.auto.line in
+    let s0 = spelling c.requires c.in-OfFour.is c.put_signs-head-in-OfFour.result.from
+    (c.put_signs-head-in-OfFour.ensures.wrote, c.put_signs-head-in-OfFour.ensures.rest) c.put_signs-head-in-OfFour.auto.line in
+    let s1 = part-next c.put_part-after_a-in-OfFour.result.from s0
+    (c.put_part-after_a-in-OfFour.ensures.wrote, c.put_part-after_a-in-OfFour.ensures.rest)
+    c.put_part-after_a-in-OfFour.auto.line in
+    let s2 = part-next c.put_part-after_b-in-OfFour.result.from s1
+    (c.put_part-after_b-in-OfFour.ensures.wrote, c.put_part-after_b-in-OfFour.ensures.rest)
+    c.put_part-after_b-in-OfFour.auto.line in
     let s3 = part-next c.put_part-after_c.result.from s2 (c.put_part-after_c.ensures.wrote, c.put_part-after_c.ensures.rest) c.put_part-after_c.auto.line in
     let s4 = part-next c.put_part-in-OfFour.result.from s3 (c.put_part-in-OfFour.ensures.wrote, c.put_part-in-OfFour.ensures.rest) c.put_part-in-OfFour.auto.line in
     all-parts s4

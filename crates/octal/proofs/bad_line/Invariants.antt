@@ -7,7 +7,8 @@ use Rattle.octal.proofs.bad_line.Given as goal
 
 abbrev pub invariant-loop-d : goal.invariant-loop-d
 invariant-loop-d l =
-    (l.d ≤ 6) × (l.p < 8 ^ l.d) × (all_digits 8 6 l.text l.at ≡ all_digits 8 (6 - l.d) l.text (l.at + l.d)) × (number_from 8 6 l.text l.at 0 ≡ number_from 8 (6 - l.d) l.text (l.at + l.d) l.p)
+    (l.d ≤ 6) × (l.p < 8 ^ l.d) × (all_digits 8 6 l.text l.at ≡ all_digits 8 (6 - l.d) l.text (l.at + l.d)) ×
+    (number_from 8 6 l.text l.at 0 ≡ number_from 8 (6 - l.d) l.text (l.at + l.d) l.p)
 
 abbrev pub decreases-loop-d : goal.decreases-loop-d
 decreases-loop-d l = 6 - l.d

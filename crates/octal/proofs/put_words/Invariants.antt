@@ -11,7 +11,8 @@ invariant-loop-k l =
     (l.k ≤ l.n)
     × (length l.out ≡ length l.initial.out)
     × (l.at ≡ 22 * l.k)
-    × ((m : List ℕ) (q : ℕ) → Wrote l.out l.at (words_from (l.n - l.k) (l.address + l.k) (4 * l.k) l.parcels) m q → Wrote l.initial.out 0 (words_from l.n l.address 0 l.parcels) m q)
+    × ((m : List ℕ) (q : ℕ) → Wrote l.out l.at (words_from (l.n - l.k) (l.address + l.k) (4 * l.k) l.parcels) m q → Wrote
+    l.initial.out 0 (words_from l.n l.address 0 l.parcels) m q)
 
 abbrev pub decreases-loop-k : goal.decreases-loop-k
 decreases-loop-k l = l.n - l.k

@@ -19,9 +19,23 @@ returns-then-r-gt1 c =
 pub returns-then-not-numbers_fit : goal.returns-then-not-numbers_fit
 unfolding run_refusal first_due frame_of
 returns-then-not-numbers_fit c =
-    rw (← c.memory_fits.ensures, c.if-not-memory_fits.false-raw, le-ltb _ _ c.if-budget-gt1000000.false, le-ltb _ _ c.if-r-gt1.false, ← c.numbers_fit.ensures, c.if-not-numbers_fit.true-raw)
+    rw (
+      ← c.memory_fits.ensures,
+      c.if-not-memory_fits.false-raw,
+      le-ltb _ _ c.if-budget-gt1000000.false,
+      le-ltb _ _ c.if-r-gt1.false,
+      ← c.numbers_fit.ensures,
+      c.if-not-numbers_fit.true-raw,
+    )
 
 pub returns : goal.returns
 unfolding run_refusal first_due frame_of
 returns c =
-    rw (← c.memory_fits.ensures, c.if-not-memory_fits.false-raw, le-ltb _ _ c.if-budget-gt1000000.false, le-ltb _ _ c.if-r-gt1.false, ← c.numbers_fit.ensures, c.if-not-numbers_fit.false-raw)
+    rw (
+      ← c.memory_fits.ensures,
+      c.if-not-memory_fits.false-raw,
+      le-ltb _ _ c.if-budget-gt1000000.false,
+      le-ltb _ _ c.if-r-gt1.false,
+      ← c.numbers_fit.ensures,
+      c.if-not-numbers_fit.false-raw,
+    )

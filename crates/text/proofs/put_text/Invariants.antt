@@ -7,7 +7,8 @@ use Rattle.text.proofs.put_text.Given as goal
 
 abbrev pub invariant-loop-i : goal.invariant-loop-i
 invariant-loop-i l =
-    (l.i ≤ length l.text) × (length l.out ≡ length l.initial.out) × ((m : List ℕ) (q : ℕ) → Wrote l.out (l.at + l.i) (drop l.i l.text) m q → Wrote l.initial.out l.at l.text m q)
+    (l.i ≤ length l.text) × (length l.out ≡ length l.initial.out) ×
+    ((m : List ℕ) (q : ℕ) → Wrote l.out (l.at + l.i) (drop l.i l.text) m q → Wrote l.initial.out l.at l.text m q)
 
 abbrev pub decreases-loop-i : goal.decreases-loop-i
 decreases-loop-i l = length l.text - l.i

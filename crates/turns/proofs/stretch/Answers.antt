@@ -16,11 +16,13 @@ finish-requires c =
 
 pub returns-in-One : goal.returns-in-One
 returns-in-One c =
-    came-one _ _ _ _ _ _ _ _ _ c.take_burst-burst.ensures c.requires.bounds.1 c.requires.fitting (search rules) c.if-steps-budget.false (sym c.strays_of.ensures ∙ c.in-One.is)
+    came-one _ _ _ _ _ _ _ _ _ c.take_burst-burst.ensures c.requires.bounds.1 c.requires.fitting (search rules)
+    c.if-steps-budget.false (sym c.strays_of.ensures ∙ c.in-One.is)
 
 pub returns-in-Two : goal.returns-in-Two
 returns-in-Two c =
-    came-two _ _ _ _ _ _ _ _ _ c.take_burst-burst.ensures c.requires.bounds.1 c.requires.fitting (search rules) c.if-steps-budget.false (sym c.strays_of.ensures ∙ c.in-Two.is)
+    came-two _ _ _ _ _ _ _ _ _ c.take_burst-burst.ensures c.requires.bounds.1 c.requires.fitting (search rules)
+    c.if-steps-budget.false (sym c.strays_of.ensures ∙ c.in-Two.is)
 
 pub returns-in-None : goal.returns-in-None
 returns-in-None c =

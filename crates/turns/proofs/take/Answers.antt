@@ -31,17 +31,20 @@ end-next-requires c =
 
 pub overflow_add-steps : goal.overflow_add-steps
 overflow_add-steps c =
-    let u = runs_on _ _ _ _ _ _ _ _ _ _ _ _ _ _ _ _ _ c.loop-steps.invariant (omega (arith, c.loop-steps-test.true)) (sym c.last_goes.ensures ∙ c.if-last_goes.true) c.stretch-came.ensures c.end-next.ensures in
+    let u = runs_on _ _ _ _ _ _ _ _ _ _ _ _ _ _ _ _ _ c.loop-steps.invariant (omega (arith, c.loop-steps-test.true))
+    (sym c.last_goes.ensures ∙ c.if-last_goes.true) c.stretch-came.ensures c.end-next.ensures in
     omega (arith, u.0.within, c.requires.bounds.1)
 
 pub loop-steps-smaller : goal.loop-steps-smaller
 loop-steps-smaller c =
-    (runs_on _ _ _ _ _ _ _ _ _ _ _ _ _ _ _ _ _ c.loop-steps.invariant (omega (arith, c.loop-steps-test.true)) (sym c.last_goes.ensures ∙ c.if-last_goes.true) c.stretch-came.ensures c.end-next.ensures).1
+    (runs_on _ _ _ _ _ _ _ _ _ _ _ _ _ _ _ _ _ c.loop-steps.invariant (omega (arith, c.loop-steps-test.true))
+    (sym c.last_goes.ensures ∙ c.if-last_goes.true) c.stretch-came.ensures c.end-next.ensures).1
 
 pub loop-steps-preserved : goal.loop-steps-preserved
 loop-steps-preserved c =
     rw c.or_else-stray.ensures
-    (runs_on _ _ _ _ _ _ _ _ _ _ _ _ _ _ _ _ _ c.loop-steps.invariant (omega (arith, c.loop-steps-test.true)) (sym c.last_goes.ensures ∙ c.if-last_goes.true) c.stretch-came.ensures c.end-next.ensures).0
+    (runs_on _ _ _ _ _ _ _ _ _ _ _ _ _ _ _ _ _ c.loop-steps.invariant (omega (arith, c.loop-steps-test.true))
+    (sym c.last_goes.ensures ∙ c.if-last_goes.true) c.stretch-came.ensures c.end-next.ensures).0
 
 pub returns-else-last_goes : goal.returns-else-last_goes
 returns-else-last_goes c =

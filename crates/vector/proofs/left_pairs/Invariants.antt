@@ -9,7 +9,9 @@ use Rattle.vector.proofs.left_pairs.Given as goal
 
 abbrev pub invariant-loop-e : goal.invariant-loop-e
 invariant-loop-e l =
-    Doing l.x (registers_of l.initial.r).vl (λ q. shift_left_pair (vj l.initial.r l.x q) (after (registers_of l.initial.r).vl (vj l.initial.r l.x) q) (ak (registers_of l.initial.r) (k_of l.x))) l.initial.r l.r l.e × (l.e ≤ l.last)
+    Doing l.x (registers_of l.initial.r).vl (λ q. shift_left_pair (vj l.initial.r l.x q)
+    (after (registers_of l.initial.r).vl (vj l.initial.r l.x) q) (ak (registers_of l.initial.r) (k_of l.x))) l.initial.r l.r l.e
+    × (l.e ≤ l.last)
 
 abbrev pub decreases-loop-e : goal.decreases-loop-e
 decreases-loop-e l = l.last - l.e

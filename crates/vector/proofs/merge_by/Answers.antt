@@ -20,7 +20,8 @@ two-requires-in-loop-e c =
 pub loop-e-preserved : goal.loop-e-preserved
 loop-e-preserved c = (
   goes-four c.args.scalar c.args.x c.vl-n.result c.s_j-s.result _ c.s_j-s.ensures (omega arith) c.loop-e.e c.loop-e.bits
-      (c.v_j-left.result + c.loop-e.e) (c.v_k-right.result + c.loop-e.e) (c.v_i-to.result + c.loop-e.e) _ _ _ c.loop-e.invariant.0 (omega arith) c.loop-e.invariant.1 (omega arith)
+      (c.v_j-left.result + c.loop-e.e) (c.v_k-right.result + c.loop-e.e) (c.v_i-to.result + c.loop-e.e) _ _ _ c.loop-e.invariant.0
+      (omega arith) c.loop-e.invariant.1 (omega arith)
       c.two.ensures c.two-in-loop-e.ensures,
   rw c.loop-e.invariant.1 (shift-more (registers_of c.args.r.now).vm c.loop-e.e 4 (omega arith)),
   omega arith,

@@ -10,7 +10,8 @@ use Rattle.vector.proofs.right_pairs.Given as goal
 
 abbrev pub invariant-loop-e : goal.invariant-loop-e
 invariant-loop-e l =
-    Doing l.x l.n (λ q. shift_right_pair (before (vj l.initial.r l.x) q) (vj l.initial.r l.x q) (ak (registers_of l.initial.r) (k_of l.x))) l.initial.r l.r l.e × (l.high ≡ before (vj l.initial.r l.x) l.e)
+    Doing l.x l.n (λ q. shift_right_pair (before (vj l.initial.r l.x) q) (vj l.initial.r l.x q)
+    (ak (registers_of l.initial.r) (k_of l.x))) l.initial.r l.r l.e × (l.high ≡ before (vj l.initial.r l.x) l.e)
 
 abbrev pub decreases-loop-e : goal.decreases-loop-e
 decreases-loop-e l = l.n - l.e

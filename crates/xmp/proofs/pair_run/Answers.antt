@@ -18,4 +18,7 @@ take_schedule-requires c =
 pub returns : goal.returns
 unfolding pair_call
 returns c =
-    record { call = rw (← c.of_pair-no.ensures, c.if-no-ne0.false) c.take_schedule.ensures; numbers = rw (← c.of_pair-no.ensures, c.if-no-ne0.false) (told pair_numbers _ _ c.take_schedule.ensures).1 }
+    record {
+      call = rw (← c.of_pair-no.ensures, c.if-no-ne0.false) c.take_schedule.ensures;
+      numbers = rw (← c.of_pair-no.ensures, c.if-no-ne0.false) (told pair_numbers _ _ c.take_schedule.ensures).1;
+    }

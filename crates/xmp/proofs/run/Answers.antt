@@ -18,4 +18,7 @@ run-requires c =
 pub returns : goal.returns
 unfolding run_call
 returns c =
-    record { call = rw (← c.of_run-no.ensures, c.if-no-ne0.false) c.run.ensures; numbers = rw (← c.of_run-no.ensures, c.if-no-ne0.false) (told run_numbers _ _ c.run.ensures).1 }
+    record {
+      call = rw (← c.of_run-no.ensures, c.if-no-ne0.false) c.run.ensures;
+      numbers = rw (← c.of_run-no.ensures, c.if-no-ne0.false) (told run_numbers _ _ c.run.ensures).1;
+    }

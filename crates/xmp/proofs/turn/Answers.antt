@@ -18,4 +18,7 @@ turn-requires c =
 pub returns : goal.returns
 unfolding turn_call
 returns c =
-    record { call = rw (← c.of_run-no.ensures, c.if-no-ne0.false) c.turn.ensures; numbers = rw (← c.of_run-no.ensures, c.if-no-ne0.false) (told turn_numbers _ _ c.turn.ensures).1 }
+    record {
+      call = rw (← c.of_run-no.ensures, c.if-no-ne0.false) c.turn.ensures;
+      numbers = rw (← c.of_run-no.ensures, c.if-no-ne0.false) (told turn_numbers _ _ c.turn.ensures).1;
+    }

@@ -36,7 +36,8 @@ loop-e-preserved c =
       search rules,
       rw c.wrapping_add_u64-at-in-loop-e.ensures.value (next_address c.loop-e.at c.a_0-from.result c.loop-e.e c.args.row.by c.loop-e.invariant.2),
       beyond-turn row c.loop-e.e _ _ c.loop-e.invariant.3 (rw (c.get-got.ensures.1, p)),
-      λ q h. ring-turn c.args.row.file c.args.row.reg (λ i. cut_to c.args.narrow (load_in c.args.mem.now (row i))) c.loop-e.e q c.loop-e.r _ c.cut.result (c.loop-e.invariant.4 q h)
+      λ q h. ring-turn c.args.row.file c.args.row.reg (λ i. cut_to c.args.narrow (load_in c.args.mem.now (row i))) c.loop-e.e q
+          c.loop-e.r _ c.cut.result (c.loop-e.invariant.4 q h)
           (rw c.place.ensures.0) (rw (c.cut.ensures, c.get-got.ensures.0, p)),
     )
 

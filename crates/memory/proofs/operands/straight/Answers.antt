@@ -1,7 +1,8 @@
 use Rattle.std.proofs.Common.{ne_eqb}
 use Rattle.memory.specs.Moves.{straight_of}
 use Rattle.memory.proofs.operands.straight.Goals as goal
-use Rattle.memory.proofs.operands.straight.Goals.{else-row-eq1-via-then-row-eq1+then-row-le64+else-w-row, else-row-eq1-via-then-row-eq1+else-row-le64, else-row-eq1-via-else-row-eq1}
+use Rattle.memory.proofs.operands.straight.Goals.{else-row-eq1-via-then-row-eq1+then-row-le64+else-w-row}
+use Rattle.memory.proofs.operands.straight.Goals.{else-row-eq1-via-then-row-eq1+else-row-le64, else-row-eq1-via-else-row-eq1}
 
 pub returns-then-w-row : goal.returns-then-w-row
 unfolding straight_of

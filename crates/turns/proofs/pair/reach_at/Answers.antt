@@ -11,4 +11,10 @@ reach-requires c =
 
 pub returns : goal.returns
 returns c =
-    record { long = c.requires.fitting.long; reaches = rw seen at c.reach.ensures; frame = c.requires.fitting.frame; control = c.requires.fitting.control; processor = c.requires.fitting.processor }
+    record {
+      long = c.requires.fitting.long;
+      reaches = rw seen at c.reach.ensures;
+      frame = c.requires.fitting.frame;
+      control = c.requires.fitting.control;
+      processor = c.requires.fitting.processor;
+    }

@@ -32,7 +32,8 @@ pass-next-requires c =
 pub step_at-w-requires : goal.step_at-w-requires
 step_at-w-requires c =
     let here : Named _ _ _ _ _ _ _ _ _ _ c.loop-n.invariant c.if-schedule-n.pair c.if-schedule-n.next = elim c.if-schedule-n.branch [
-      | then-schedule-n t ↦ passed _ _ _ _ _ _ _ _ _ _ c.loop-n.invariant _ _ _ _ t.pass-next.ensures.passes t.pass-next.ensures.at_value (search rules) t.pair-is t.next-is
+      | then-schedule-n t ↦ passed _ _ _ _ _ _ _ _ _ _ c.loop-n.invariant _ _ _ _ t.pass-next.ensures.passes
+          t.pass-next.ensures.at_value (search rules) t.pair-is t.next-is
       | else-schedule-n t ↦ stayed _ _ _ _ _ _ _ _ _ _ c.loop-n.invariant _ _ t.if-schedule-n.false t.pair-is t.next-is
     ] in
     let s = here.0.stands in record {
@@ -44,7 +45,8 @@ step_at-w-requires c =
 pub shape_of-pair-in_default : goal.shape_of-pair-in_default
 shape_of-pair-in_default c =
     let here : Named _ _ _ _ _ _ _ _ _ _ c.loop-n.invariant c.if-schedule-n.pair c.if-schedule-n.next = elim c.if-schedule-n.branch [
-      | then-schedule-n t ↦ passed _ _ _ _ _ _ _ _ _ _ c.loop-n.invariant _ _ _ _ t.pass-next.ensures.passes t.pass-next.ensures.at_value (search rules) t.pair-is t.next-is
+      | then-schedule-n t ↦ passed _ _ _ _ _ _ _ _ _ _ c.loop-n.invariant _ _ _ _ t.pass-next.ensures.passes
+          t.pass-next.ensures.at_value (search rules) t.pair-is t.next-is
       | else-schedule-n t ↦ stayed _ _ _ _ _ _ _ _ _ _ c.loop-n.invariant _ _ t.if-schedule-n.false t.pair-is t.next-is
     ] in
     search (rules, here.0.whole, c.requires.whole.0)
@@ -52,7 +54,8 @@ shape_of-pair-in_default c =
 pub returns-in_default : goal.returns-in_default
 returns-in_default c =
     let here : Named _ _ _ _ _ _ _ _ _ _ c.loop-n.invariant c.if-schedule-n.pair c.if-schedule-n.next = elim c.if-schedule-n.branch [
-      | then-schedule-n t ↦ passed _ _ _ _ _ _ _ _ _ _ c.loop-n.invariant _ _ _ _ t.pass-next.ensures.passes t.pass-next.ensures.at_value (search rules) t.pair-is t.next-is
+      | then-schedule-n t ↦ passed _ _ _ _ _ _ _ _ _ _ c.loop-n.invariant _ _ _ _ t.pass-next.ensures.passes
+          t.pass-next.ensures.at_value (search rules) t.pair-is t.next-is
       | else-schedule-n t ↦ stayed _ _ _ _ _ _ _ _ _ _ c.loop-n.invariant _ _ t.if-schedule-n.false t.pair-is t.next-is
     ] in
     ends _ _ _ _ _ _ _ _ _ _ _ _ _ here c.loop-n-test.true c.step_at-w.ensures.works c.step_at-w.ensures.pair_unchanged (search (rules, here.0.whole))
@@ -65,7 +68,8 @@ overflow_add-n c =
 pub loop-n-preserved : goal.loop-n-preserved
 loop-n-preserved c =
     let here : Named _ _ _ _ _ _ _ _ _ _ c.loop-n.invariant c.if-schedule-n.pair c.if-schedule-n.next = elim c.if-schedule-n.branch [
-      | then-schedule-n t ↦ passed _ _ _ _ _ _ _ _ _ _ c.loop-n.invariant _ _ _ _ t.pass-next.ensures.passes t.pass-next.ensures.at_value (search rules) t.pair-is t.next-is
+      | then-schedule-n t ↦ passed _ _ _ _ _ _ _ _ _ _ c.loop-n.invariant _ _ _ _ t.pass-next.ensures.passes
+          t.pass-next.ensures.at_value (search rules) t.pair-is t.next-is
       | else-schedule-n t ↦ stayed _ _ _ _ _ _ _ _ _ _ c.loop-n.invariant _ _ t.if-schedule-n.false t.pair-is t.next-is
     ] in
     goes_on_lem _ _ _ _ _ _ _ _ _ _ _ _ _ here c.loop-n-test.true c.step_at-w.ensures.works c.step_at-w.ensures.pair_unchanged (search (rules, here.0.whole)) _

@@ -45,7 +45,9 @@ shape_of-mem-then-not-answer_goes c =
 
 pub returns-then-not-answer_goes : goal.returns-then-not-answer_goes
 returns-then-not-answer_goes c =
-    rw c.count_of.ensures.0 (last_step _ _ _ _ _ _ _ _ _ _ _ _ c.loop-burst.invariant c.loop-burst-test.true c.stray_at-stray.ensures c.finish_at-answer.ensures.finished c.finish_at-answer.ensures.pair_unchanged (search (rules, c.loop-burst.invariant.size))
+    rw c.count_of.ensures.0 (last_step _ _ _ _ _ _ _ _ _ _ _ _ c.loop-burst.invariant c.loop-burst-test.true
+    c.stray_at-stray.ensures c.finish_at-answer.ensures.finished c.finish_at-answer.ensures.pair_unchanged
+    (search (rules, c.loop-burst.invariant.size))
     c.newer-strays.ensures.0 c.newer-strays.ensures.1 (sym c.answer_goes.ensures ∙ not-true _ c.if-not-answer_goes.true-raw) ∙ c.take-burst.ensures.run Clean Clean)
 
 pub overflow_add-n : goal.overflow_add-n
@@ -56,7 +58,9 @@ pub take-burst-requires-in-loop-burst : goal.take-burst-requires-in-loop-burst
 take-burst-requires-in-loop-burst c =
     record {
       whole = (search (rules, c.loop-burst.invariant.size), c.requires.whole.1, omega (arith, c.loop-burst-test.true));
-      both = both _ _ _ _ _ _ _ _ _ _ _ _ c.loop-burst.invariant c.loop-burst-test.true c.stray_at-stray.ensures c.finish_at-answer.ensures.finished c.finish_at-answer.ensures.pair_unchanged (search (rules, c.loop-burst.invariant.size))
+      both = both _ _ _ _ _ _ _ _ _ _ _ _ c.loop-burst.invariant c.loop-burst-test.true c.stray_at-stray.ensures
+          c.finish_at-answer.ensures.finished c.finish_at-answer.ensures.pair_unchanged
+          (search (rules, c.loop-burst.invariant.size))
           c.newer-strays.ensures.0 c.newer-strays.ensures.1;
     }
 
@@ -66,9 +70,12 @@ loop-burst-smaller c =
 
 pub loop-burst-preserved : goal.loop-burst-preserved
 loop-burst-preserved c =
-    turning _ _ _ _ _ _ _ _ _ _ c.take-burst-in-loop-burst.ensures (search (rules, c.loop-burst.invariant.size)) (memory-long _ _ _ _ _ _ _ _ _ _ _ _ c.loop-burst.invariant c.loop-burst-test.true c.stray_at-stray.ensures c.finish_at-answer.ensures.finished c.finish_at-answer.ensures.pair_unchanged (search (rules, c.loop-burst.invariant.size))
+    turning _ _ _ _ _ _ _ _ _ _ c.take-burst-in-loop-burst.ensures (search (rules, c.loop-burst.invariant.size))
+    (memory-long _ _ _ _ _ _ _ _ _ _ _ _ c.loop-burst.invariant c.loop-burst-test.true c.stray_at-stray.ensures
+    c.finish_at-answer.ensures.finished c.finish_at-answer.ensures.pair_unchanged (search (rules, c.loop-burst.invariant.size))
     c.newer-strays.ensures.0 c.newer-strays.ensures.1)
-    (next-step _ _ _ _ _ _ _ _ _ _ _ _ c.loop-burst.invariant c.loop-burst-test.true c.stray_at-stray.ensures c.finish_at-answer.ensures.finished c.finish_at-answer.ensures.pair_unchanged (search (rules, c.loop-burst.invariant.size))
+    (next-step _ _ _ _ _ _ _ _ _ _ _ _ c.loop-burst.invariant c.loop-burst-test.true c.stray_at-stray.ensures
+    c.finish_at-answer.ensures.finished c.finish_at-answer.ensures.pair_unchanged (search (rules, c.loop-burst.invariant.size))
     c.newer-strays.ensures.0 c.newer-strays.ensures.1 (sym c.answer_goes.ensures ∙ not-false _ c.if-not-answer_goes.false-raw))
 
 pub keep_p-requires : goal.keep_p-requires

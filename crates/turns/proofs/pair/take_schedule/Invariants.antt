@@ -6,7 +6,8 @@ use Rattle.turns.proofs.pair.take_schedule.Given as goal
 
 abbrev pub invariant-loop-burst : goal.invariant-loop-burst
 invariant-loop-burst l =
-    Turning (came_end l.schedule l.initial.burst.at l.initial.burst.p l.initial.burst.steps l.initial.burst.work l.initial.strays.first l.initial.strays.second l.initial.pair l.initial.mem) (length l.initial.mem)
+    Turning (came_end l.schedule l.initial.burst.at l.initial.burst.p l.initial.burst.steps l.initial.burst.work
+    l.initial.strays.first l.initial.strays.second l.initial.pair l.initial.mem) (length l.initial.mem)
     l.schedule l.pair l.mem l.burst l.strays
 
 abbrev pub decreases-loop-burst : goal.decreases-loop-burst
