@@ -1,7 +1,6 @@
 -- From what an instruction's function wrote to what the definitions say of its code. Assumes nothing.
+use Rattle.std.specs.Prelude.{Some, None}
 use Rattle.std.proofs.Common.{◌≡◌, ℕ, ◌/◌, ◌%◌, ◌^◌, Bool, true, false, List, length, refl}
-use Rattle.machine.specs.declared.Fetched.TheVariants.{Parcel, Outside}
-use Rattle.machine.specs.declared.Stray.TheVariants.{Clean}
 use Rattle.machine.specs.declared.Work.{Work}
 use Rattle.machine.specs.declared.Work.TheVariants.{PastOne, To, NotHeld}
 use Rattle.machine.specs.Word.{pick}
@@ -33,7 +32,7 @@ module _ (w : Work) (r r' mem mem' : List ℕ) (p x : ℕ) where
   one n e f d = executes (holds_one n) e f d
 
   -- two parcels, of which the second was fetched
-  pub two : (n : Instr) (m : ℕ) → code_of (user (frame_of r)) x ≡ holds_two n → fetch_of (frame_of r) mem (onward p 1) ≡ Parcel m → frame_of r' ≡ frame_of r
+  pub two : (n : Instr) (m : ℕ) → code_of (user (frame_of r)) x ≡ holds_two n → fetch_of (frame_of r) mem (onward p 1) ≡ Some m → frame_of r' ≡ frame_of r
       → done w (told w r' (length mem')) (registers_of r') (sharing mem') ≡ perform (frame_of r) (registers_of r) 2 (sharing mem) (act_at r p x m 2 n)
       → Executes w r r' mem mem' p x
   unfolding decoded done_with
@@ -45,13 +44,13 @@ unfolding decoded done_with
 not-held r mem p x e = executes NotHeld r r mem mem p x holds_none e refl refl
 
 -- a parcel that lies outside is no operand
-pub no_stray : (u : Bool) (r : List ℕ) (len : ℕ) → told (no_parcel u) r len ≡ Clean
+pub no_stray : (u : Bool) (r : List ℕ) (len : ℕ) → told (no_parcel u) r len ≡ None
 unfolding no_parcel
 no_stray true r len = refl
 no_stray false r len = refl
 
 -- a second parcel that lies outside
-pub lost : (w : Work) (r mem : List ℕ) (p x : ℕ) (n : Instr) → code_of (user (frame_of r)) x ≡ holds_two n → fetch_of (frame_of r) mem (onward p 1) ≡ Outside
+pub lost : (w : Work) (r mem : List ℕ) (p x : ℕ) (n : Instr) → code_of (user (frame_of r)) x ≡ holds_two n → fetch_of (frame_of r) mem (onward p 1) ≡ None
     → w ≡ no_parcel (user (frame_of r)) → Executes w r r mem mem p x
 unfolding decoded done_with
 lost w r mem p x n e g h = executes w r r mem mem p x (holds_two n) e refl (rw (g, h, no_stray (user (frame_of r)) r (length mem)))
@@ -64,15 +63,15 @@ unfolding perform
 puts n u w r r' mem p x h e a = one w r r' mem mem p x n e h.1.frame (rw (a, h.0, h.1.registers))
 
 -- two parcels, and a register written
-pub puts-two : (n : Instr) (u : Put) (w : Work) (r r' mem : List ℕ) (p x m : ℕ) → w ≡ past 2 Clean → Puts r r' u → code_of (user (frame_of r)) x ≡ holds_two n
-    → fetch_of (frame_of r) mem (onward p 1) ≡ Parcel m → act_at r p x m 2 n ≡ does u → Executes w r r' mem mem p x
+pub puts-two : (n : Instr) (u : Put) (w : Work) (r r' mem : List ℕ) (p x m : ℕ) → w ≡ past 2 None → Puts r r' u → code_of (user (frame_of r)) x ≡ holds_two n
+    → fetch_of (frame_of r) mem (onward p 1) ≡ Some m → act_at r p x m 2 n ≡ does u → Executes w r r' mem mem p x
 unfolding perform
 puts-two n u w r r' mem p x m h k e g a = two w r r' mem mem p x n m e g k.frame (rw (a, h, k.registers))
 
 -- two parcels, P going to q
 pub goes-two : (n : Instr) (u : Put) (q : ℕ) (w : Work) (r r' mem : List ℕ) (p x m : ℕ) → w ≡ To (addr (q % 2 ^ 24)) → Puts r r' u
     → code_of (user (frame_of r)) x ≡ holds_two n
-    → fetch_of (frame_of r) mem (onward p 1) ≡ Parcel m → act_at r p x m 2 n ≡ goes q u → Executes w r r' mem mem p x
+    → fetch_of (frame_of r) mem (onward p 1) ≡ Some m → act_at r p x m 2 n ≡ goes q u → Executes w r r' mem mem p x
 unfolding perform
 goes-two n u q w r r' mem p x m h k e g a = two w r r' mem mem p x n m e g k.frame (rw (a, h, k.registers))
 

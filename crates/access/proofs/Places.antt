@@ -1,10 +1,12 @@
 -- Places: what stands in a part of a processor's words, and what a store at a place makes of it, once for each kind of register.
 -- Assumes nothing.
 use Rattle.std.proofs.Common.{◌≡◌, ℕ, zero, suc, ◌+◌, ◌-◌, ◌*◌, ◌<◌, ◌≤◌, Bool, true, false, eqb, ◌≢◌, ◌⊎◌, List, length, get_or}
-use Rattle.std.proofs.Common.{take, drop, set, sym, refl, ap, ◌∙◌, inl, inr, ⊎_elim, add-one, arith, length-set, get_or-drop}
+use Rattle.std.proofs.Common.{◌++◌, take, drop, set, sym, refl, ap, ◌∙◌, inl, inr, ⊎_elim, add-one, arith, length-set, get_or-drop}
 use Rattle.std.proofs.Common.{get_or-set_other, get_or-take, get_or-set_same, drop-set-lt, rules, eqb-true}
 use borrow.Author.Tests.{eqb-false}
-use lib.Seq.{take-set-lt, take-set-le, drop-set-add}
+use lib.ListN.{take-append-drop, length-drop}
+use lib.Seq.{take-set-lt, take-set-le, drop-set-add, length-take-le, take-suc, drop-cons, append_snoc, set_at}
+use Rattle.std.proofs.lemmas.List.{set-append_right}
 use Rattle.machine.specs.Word.{pick}
 use Rattle.machine.specs.State.{Registers, to_a, to_s, to_b, to_t, to_element, to_v, apply, with_v, control, fill, el}
 use Rattle.machine.specs.Layout.{part, registers_of, frame_of}
@@ -267,3 +269,20 @@ pub ahead : (i j m n : ℕ) (f : ℕ → ℕ) (w₀ w : List ℕ) → j < 8 → 
 ahead i j m n f w₀ w h g l p =
     let apart : (e : ℕ) → e < n → 160 + j * 64 + m ≢ 160 + i * 64 + e = λ e t. omega arith in
     rw p (fill-other (160 + i * 64) f n w₀ (160 + j * 64 + m) apart ∙ sym (el-at w₀ j m h l))
+
+-- a copy of the first n words of s: one word more
+copied : (s d r : List ℕ) (n : ℕ) → n < length s → n < length d → r ≡ take n s ++ drop n d → set r n (get_or s n 0) ≡ take (n + 1) s ++ drop (n + 1) d
+copied s d r n h l e =
+    let p : length (take n s) ≡ n = length-take-le n s (omega arith) in
+    rw (e, add-one, take-suc s n 0 h, append_snoc, drop-cons d n 0 l) (set_at (take n s) (get_or d n 0) (drop (suc n) d) (get_or s n 0) n p)
+
+-- n places are filled with the first n items of a list by putting those in their place
+pub filled-part : (at : ℕ) (w l : List ℕ) (n : ℕ) → n ≤ length w → at + n ≤ length l
+    → fill at (λ i. get_or w i 0) n l ≡ take at l ++ (take n w ++ drop n (drop at l))
+unfolding fill
+filled-part at w l zero h k = sym (take-append-drop at l)
+filled-part at w l (suc n) h k =
+    let e : at + n - at ≡ n = omega arith in
+    let rest = length-drop at l in
+    rw (filled-part at w l n (omega arith) (omega arith)) (set-append_right (take at l) (take n w ++ drop n (drop at l)) at (at + n) (get_or w n 0)
+    (length-take-le at l (omega arith)) (omega arith) ∙ ap (λ (x : List ℕ). take at l ++ x) (rw e (rw add-one at (copied w (drop at l) (take n w ++ drop n (drop at l)) n (omega arith) (omega (arith, rest)) refl))))

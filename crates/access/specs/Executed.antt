@@ -1,7 +1,6 @@
 -- What the functions of the instructions promise of the words that they are lent. Assumes nothing.
-use Rattle.std.specs.Prelude.{◌≡◌, ℕ, zero, suc, ◌+◌, ◌*◌, ◌/◌, ◌%◌, ◌^◌, ◌<◌, ◌≤◌, Bool, ◌⊎◌, List, length, ◌==◌, nat_lt, slice_index, slice_set}
+use Rattle.std.specs.Prelude.{◌≡◌, ℕ, zero, suc, ◌+◌, ◌*◌, ◌/◌, ◌%◌, ◌^◌, ◌<◌, ◌≤◌, Bool, ◌⊎◌, List, length, ◌==◌, nat_lt, slice_index, slice_set, Option, None}
 use Rattle.machine.specs.declared.Stray.{Stray}
-use Rattle.machine.specs.declared.Stray.TheVariants.{Clean}
 use Rattle.machine.specs.declared.Work.{Work}
 use Rattle.machine.specs.declared.Work.TheVariants.{PastOne, PastTwo, To, NormalExit, ErrorExit, StrayedOne, StrayedTwo, ProgramRange, NotHeld, MonitorFetch}
 use Rattle.machine.specs.Word.{pick}
@@ -20,18 +19,18 @@ abbrev pub block_by : Registers → ℕ → ℕ
 block_by r x = pick (nat_lt (x / 512) 64) 1 (ak r (k_of x))
 
 -- the stray of work that ended so, told by a processor's words: P's place has the block move, or the address of a single word
-abbrev pub told : Work → List ℕ → ℕ → Stray
-told PastOne r len = Clean
-told PastTwo r len = Clean
-told (To p) r len = Clean
-told NormalExit r len = Clean
-told ErrorExit r len = Clean
+abbrev pub told : Work → List ℕ → ℕ → Option Stray
+told PastOne r len = None
+told PastTwo r len = None
+told (To p) r len = None
+told NormalExit r len = None
+told ErrorExit r len = None
 told StrayedOne r len =
     first_outside (data_field (frame_of r)) (λ e. ai (registers_of r) 0 + e * block_by (registers_of r) (slice_index r 0)) len (block_count (registers_of r) (slice_index r 0))
 told StrayedTwo r len = first_outside (data_field (frame_of r)) (λ e. slice_index r 0 + e * 0) len 1
-told ProgramRange r len = Clean
-told NotHeld r len = Clean
-told MonitorFetch r len = Clean
+told ProgramRange r len = None
+told NotHeld r len = None
+told MonitorFetch r len = None
 
 -- from r to r' and from mem to mem' the instruction at p whose first parcel is x was executed, and w says how it ended
 pub record Executes (w : Work) (r r' mem mem' : List ℕ) (p x : ℕ) : Type 0 where

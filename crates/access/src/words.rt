@@ -27,7 +27,5 @@ pub fn put_sixteen(to: &mut [u64], first: usize, w: [u64; 16])
     requires { first + 16 ≤ length to.old }
     ensures { to.new ≡ fill first (λ n. slice_index w n) 16 to.old }
 {
-    for n in 0..16 {
-        to[first + n] = w[n];
-    }
+    to[first..first + 16].copy_from_slice(&w);
 }

@@ -1,26 +1,28 @@
 -- What a guess makes of the first line of a text. Assumes nothing.
+use Rattle.std.specs.Prelude.{Option, Some, None, ◌||◌}
 use mathlib.Core.Path.{◌≡◌, refl, sym, ap, ◌∙◌, subst}
 use mathlib.Core.Bool.{Bool, true, false, not, ◌&&◌}
 use mathlib.Core.List.{List, [], ◌∷◌, ◌++◌, append-nil}
-use Prim.Native.Nat.{ℕ, zero, suc, ◌+◌, ◌-◌, ◌*◌, ◌/◌, ◌%◌, ◌^◌, ◌≤◌, ◌<◌}
+use Prim.Native.Nat.{ℕ, zero, suc, ◌+◌, ◌-◌, ◌≤◌, ◌<◌}
 use native.Mathlib.Nat.{le_of_suc-le-suc}
 use native.Mathlib.Omega.{arith}
-use lib.ListN.{length, get_or, drop, replicate, length-drop}
-use lib.Seq.{sets, drop-drop, get_or-drop}
+use lib.ListN.{length, get_or, take, drop, replicate, length-drop}
+use lib.Seq.{get_or-drop}
+use Rattle.std.proofs.lemmas.List.{take-append-drop}
 use lib.Dec.{eqb, ltb, leb}
-use borrow.Author.Tests.{eqb-true, eqb-false, ltb-true, ltb-false, leb-true, leb-false}
-use Rattle.machine.specs.Word.{pick, bit}
+use borrow.Author.Tests.{ltb-true, ltb-false, leb-true, leb-false}
+use Rattle.machine.specs.Word.{pick}
 use Rattle.spelling.specs.Spelling.{second}
 use Rattle.spelling.specs.Listing.{data_line, line_of}
-use Rattle.spelling.specs.Candidate.{Guess, guess_by, guess_of, packed}
+use Rattle.spelling.specs.Candidate.{Guess, guess_by, guess_of}
 use Rattle.spelling.specs.Assembling.{begins, line_good, line_bad, line_is, if_last, line_by, parcels_of, read_line}
 use Rattle.spelling.proofs.Lines.{data-length, line-most}
 use Rattle.spelling.proofs.Texts.{begins-short}
 use Rattle.readback.proofs.Guessed.{first_below, second_below}
-use Rattle.assembly.proofs.Same.{sets-front}
-use Rattle.assembly.specs.Reads.{line_for, parcels_for, ends_text, Hears, read_as, ReadsAs, unpacked}
+use Rattle.guess.specs.declared.Guess.{Guess as Told}
+use Rattle.guess.specs.Meant.{meant}
+use Rattle.assembly.specs.Reads.{line_for, parcels_for, ends_text, length_if, Hears, pads, read_as, ReadsAs, HeardRight, parcels_with, parcels_meant}
 use Rattle.assembly.specs.declared.Heard.{Heard}
-use Rattle.assembly.specs.declared.Read.TheVariants.{Line as ALine, NoLine}
 
 -- a guess goes by the bytes, and past the end of a text they are newlines, as if more of them followed
 newlines-after : (s u : List ℕ) → ((i : ℕ) → get_or u i 10 ≡ 10) → (p : ℕ) → get_or (s ++ u) p 10 ≡ get_or s p 10
@@ -33,17 +35,11 @@ newlines zero i = refl
 newlines (suc n) zero = refl
 newlines (suc n) (suc i) = newlines n i
 
-abbrev pub pads : List ℕ → List ℕ
-pads s = drop (length s) (replicate 64 10)
-
 pub guess-padded : (s : List ℕ) → guess_of (s ++ pads s) ≡ guess_of s
 unfolding guess_of
 guess-padded s =
-    let same = newlines-after s (pads s) (λ i. get_or-drop (length s) (replicate 64 10) i 10 ∙ newlines 64 (length s + i)) in
+    let same = newlines-after s (pads s) (λ i. get_or-drop (length s) (replicate 32 10) i 10 ∙ newlines 32 (length s + i)) in
     λ i. guess_by (λ p. same p i)
-
-pub padded : (s : List ℕ) → length s ≤ 64 → sets (replicate 64 10) 0 s ≡ s ++ pads s
-padded s h = sets-front (replicate 64 10) s h
 
 -- a text that goes on
 begins-more : (s t l : List ℕ) → length l ≤ length s → begins (s ++ t) l ≡ begins s l
@@ -88,81 +84,93 @@ parcels-most g = go (second g.first) g.two
     go true false = omega arith
     go false b = omega arith
 
--- a guess packed and unpacked
-module _ (g : Guess) (first : g.first < 65536) (also : g.second < 65536) where
-  pub packed-first : packed g % 65536 ≡ g.first
-  unfolding packed
-  packed-first = go g.two
+-- the parcels of a guess that is passed on
+pub parcels_told : (g : Guess) → parcels_meant (meant g) ≡ parcels_of g
+parcels_told g = go g.two
+  where
+    go : (b : Bool) → parcels_with g.first (pick b (Some g.second) None) ≡ pick b (g.first ∷ g.second ∷ []) (g.first ∷ [])
+    go true = refl
+    go false = refl
+
+-- what is heard by the guess of a text that 32 bytes begin, x being its first parcel: of one parcel, of data, of two parcels
+module _ (w rest : List ℕ) (wide : length w ≡ 32) (told : Told) (is : told ≡ meant (guess_of (w ++ rest))) (x : ℕ) (first : x ≡ told.first) where
+  abbrev whole : List ℕ
+  whole = w ++ rest
+
+  abbrev guess : Guess
+  guess = guess_of whole
+
+  first-is : guess.first ≡ x
+  first-is = sym (first ∙ ap (λ (t : Told). t.first) is)
+
+  small : x < 65536
+  small = let e = first-is in let h = first_below whole in omega (arith, e, h)
+
+  same-line : (line : List ℕ) → length line ≤ 16 → length_if whole line ≡ length_if w line
+  same-line line h = ap (λ (b : Bool). pick b (Some (length line)) None) (begins-more w rest line (omega (arith, wide)))
+
+  hears-some : (n parcels : ℕ) (last : Bool) → length_if whole (line_for guess) ≡ Some n → parcels ≡ length (parcels_for guess) → last ≡ ends_text guess
+      → Hears whole (Some (record { bytes = n; parcels = parcels; last = last }))
+  hears-some n parcels last e p l = go (begins whole (line_for guess)) refl e
     where
-      go : (b : Bool) → (g.first + g.second * 65536 + bit b * 2 ^ 32 + g.length * 2 ^ 33) % 65536 ≡ g.first
-      go true = omega arith
-      go false = omega arith
+      go : (b : Bool) → begins whole (line_for guess) ≡ b → pick b (Some (length (line_for guess))) None ≡ Some n
+          → Hears whole (Some (record { bytes = n; parcels = parcels; last = last }))
+      go true f g = (f, cc, p, l)
+      go false f g = cc
 
-  pub packed-second : packed g / 65536 % 65536 ≡ g.second
-  unfolding packed
-  packed-second = go g.two
+  hears-not : length_if whole (line_for guess) ≡ None → Hears whole None
+  hears-not e = go (begins whole (line_for guess)) refl e
     where
-      go : (b : Bool) → (g.first + g.second * 65536 + bit b * 2 ^ 32 + g.length * 2 ^ 33) / 65536 % 65536 ≡ g.second
-      go true = omega arith
-      go false = omega arith
+      go : (b : Bool) → begins whole (line_for guess) ≡ b → pick b (Some (length (line_for guess))) None ≡ None → begins whole (line_for guess) ≡ false
+      go true f g = cc
+      go false f g = f
 
-  pub packed-two : packed g / 2 ^ 32 % 2 ≡ bit g.two
-  unfolding packed
-  packed-two = go g.two
-    where
-      go : (b : Bool) → (g.first + g.second * 65536 + bit b * 2 ^ 32 + g.length * 2 ^ 33) / 2 ^ 32 % 2 ≡ bit b
-      go true = omega arith
-      go false = omega arith
+  module _ (one : second x ≡ false) where
+    one-line : length_if whole (line_for guess) ≡ length_if w (line_of x 0)
+    one-line = rw (first-is, one) (same-line (line_of x 0) (line-most x 0 small (omega arith)).1)
 
-  pub packed-length : packed g / 2 ^ 33 ≡ g.length
-  unfolding packed
-  packed-length = go g.two
-    where
-      go : (b : Bool) → (g.first + g.second * 65536 + bit b * 2 ^ 32 + g.length * 2 ^ 33) / 2 ^ 33 ≡ g.length
-      go true = omega arith
-      go false = omega arith
+    pub hears-one : (n : ℕ) → length_if w (line_of x 0) ≡ Some n → Hears whole (Some (record { bytes = n; parcels = 1; last = false }))
+    hears-one n e = hears-some n 1 false (one-line ∙ e) (rw (first-is, one) refl) (rw (first-is, one) refl)
 
-  pub unpacked-is : unpacked (packed g) ≡ parcels_of g
-  unpacked-is = rw (packed-first, packed-second, packed-two) (go g.two)
-    where
-      go : (b : Bool) → pick (eqb (bit b) 0) (g.first ∷ []) (g.first ∷ g.second ∷ []) ≡ pick b (g.first ∷ g.second ∷ []) (g.first ∷ [])
-      go true = refl
-      go false = refl
+    pub hears-no-one : length_if w (line_of x 0) ≡ None → Hears whole None
+    hears-no-one e = hears-not (one-line ∙ e)
 
--- a guess of a text, as one number, and what is heard by it: of one parcel, of data, of two parcels
-bit-zero : (b : Bool) → bit b ≡ 0 → b ≡ false
-bit-zero true e = absurd (omega arith)
-bit-zero false e = refl
+  module _ (more : second x ≡ true) where
+    module _ (none : told.second ≡ None) where
+      single : guess.two ≡ false
+      single = go guess.two (sym none ∙ ap (λ (t : Told). t.second) is)
+        where
+          go : (b : Bool) → None ≡ pick b (Some guess.second) None → b ≡ false
+          go true e = cc
+          go false e = refl
 
-bit-one : (b : Bool) → (bit b ≡ 0 → ⊥) → b ≡ true
-bit-one true e = refl
-bit-one false e = absurd (e refl)
+      data-line : length_if whole (line_for guess) ≡ length_if w (data_line x)
+      data-line = rw (first-is, more, single) (same-line (data_line x) (let n = data-length x in omega (arith, n)))
 
-module _ (s : List ℕ) (p : ℕ) (is : p ≡ packed (guess_of s)) where
-  first-is : (guess_of s).first ≡ p % 65536
-  first-is = sym (ap (λ (n : ℕ). n % 65536) is ∙ packed-first (guess_of s) (first_below s) (second_below s))
+      pub hears-data : (n : ℕ) → length_if w (data_line x) ≡ Some n → Hears whole (Some (record { bytes = n; parcels = 1; last = true }))
+      hears-data n e = hears-some n 1 true (data-line ∙ e) (rw (first-is, more, single) refl) (rw (first-is, more, single) refl)
 
-  second-parcel : (guess_of s).second ≡ p / 65536 % 65536
-  second-parcel = sym (ap (λ (n : ℕ). n / 65536 % 65536) is ∙ packed-second (guess_of s) (first_below s) (second_below s))
+      pub hears-no-data : length_if w (data_line x) ≡ None → Hears whole None
+      hears-no-data e = hears-not (data-line ∙ e)
 
-  two_is : p / 2 ^ 32 % 2 ≡ bit (guess_of s).two
-  two_is = ap (λ (n : ℕ). n / 2 ^ 32 % 2) is ∙ packed-two (guess_of s) (first_below s) (second_below s)
+    module _ (m : ℕ) (some : told.second ≡ Some m) where
+      pair : (guess.two ≡ true) × (guess.second ≡ m)
+      pair = go guess.two (sym some ∙ ap (λ (t : Told). t.second) is)
+        where
+          go : (b : Bool) → Some m ≡ pick b (Some guess.second) None → (b ≡ true) × (guess.second ≡ m)
+          go true e = (refl, cc)
+          go false e = cc
 
-  module _ (n : ℕ) where
-    pub hears-one : second (p % 65536) ≡ false → n ≡ pick (begins s (line_of (p % 65536) 0)) (length (line_of (p % 65536) 0)) 0
-        → Hears s (record { bytes = n; parcels = 1; last = false })
-    hears-one e k = rw (first-is, e) (k, refl, refl)
+      two-line : length_if whole (line_for guess) ≡ length_if w (line_of x m)
+      two-line =
+          let low : m < 65536 = (let e = pair.1 in let h = second_below whole in omega (arith, e, h)) in
+          rw (first-is, pair.1, more, pair.0) (same-line (line_of x m) (line-most x m small low).1)
 
-    pub hears-data : second (p % 65536) ≡ true → p / 2 ^ 32 % 2 ≡ 0 → n ≡ pick (begins s (data_line (p % 65536))) (length (data_line (p % 65536))) 0
-        → Hears s (record { bytes = n; parcels = 1; last = true })
-    hears-data e f k = let one = bit-zero (guess_of s).two (sym two_is ∙ f) in rw (first-is, e, one) (k, refl, refl)
+      pub hears-two : (n : ℕ) → length_if w (line_of x m) ≡ Some n → Hears whole (Some (record { bytes = n; parcels = 2; last = false }))
+      hears-two n e = hears-some n 2 false (two-line ∙ e) (rw (first-is, more, pair.0) refl) (rw (first-is, more, pair.0) refl)
 
-    pub hears-two : second (p % 65536) ≡ true → (p / 2 ^ 32 % 2 ≡ 0 → ⊥)
-        → n ≡ pick (begins s (line_of (p % 65536) (p / 65536 % 65536))) (length (line_of (p % 65536) (p / 65536 % 65536))) 0
-        → Hears s (record { bytes = n; parcels = 2; last = false })
-    hears-two e f k =
-        let two = bit-one (guess_of s).two (λ z. f (two_is ∙ z)) in
-        rw (first-is, second-parcel, e, two) (k, refl, refl)
+      pub hears-no-two : length_if w (line_of x m) ≡ None → Hears whole None
+      hears-no-two e = hears-not (two-line ∙ e)
 
 -- the last line of a text
 last_empty : (ps rest : List ℕ) → length rest ≡ 0 → if_last (line_good ps rest) ≡ line_good ps rest
@@ -173,11 +181,8 @@ last_more : (ps rest : List ℕ) → 0 < length rest → if_last (line_good ps r
 last_more ps [] h = absurd (omega arith)
 last_more ps (b ∷ rest) h = refl
 
--- what is heard of the rest of a text, whatever is put after it, is read right
-module _ (text : List ℕ) (at : ℕ) (more : at < length text) (t : List ℕ) (h : Heard) where
-  abbrev s : List ℕ
-  s = drop at text
-
+-- what is heard of a text, whatever is put after it, is read right
+module _ (s t : List ℕ) (same : guess_of (s ++ t) ≡ guess_of s) where
   abbrev g : Guess
   g = guess_of s
 
@@ -187,70 +192,59 @@ module _ (text : List ℕ) (at : ℕ) (more : at < length text) (t : List ℕ) (
   abbrev ps : List ℕ
   ps = parcels_for g
 
-  module _ (same : guess_of (s ++ t) ≡ g) (hears : Hears (s ++ t) h) (low : g.first < 65536) (also : g.second < 65536) where
-    left : length s ≡ length text - at
-    left = length-drop at text
+  least : 2 ≤ length line
+  least = line-least g (first_below s) (second_below s)
 
-    least : 2 ≤ length line
-    least = line-least g low also
+  begun : length line ≤ length s → begins s line ≡ begins (s ++ t) line
+  begun k = sym (begins-more s t line k)
 
-    bytes : h.bytes ≡ pick (begins (s ++ t) line) (length line) 0
-    bytes = hears.0 ∙ ap (λ (g : Guess). pick (begins (s ++ t) (line_for g)) (length (line_for g)) 0) same
+  bad : begins s line ≡ false → read_line s ≡ line_bad
+  unfolding read_line line_is
+  bad e = line-by s g ∙ go (ends_text g)
+    where
+      go : (b : Bool) → pick b (if_last (line_is s line ps)) (line_is s line ps) ≡ line_bad
+      go true = rw e
+      go false = rw e
 
-    last : h.last ≡ ends_text g
-    last = hears.2 ∙ ap ends_text same
+  -- another line
+  not-begun : begins (s ++ t) line ≡ false → begins s line ≡ false
+  not-begun f = go (leb (length line) (length s)) refl
+    where
+      go : (b : Bool) → leb (length line) (length s) ≡ b → begins s line ≡ false
+      go true q = begun (leb-true (length line) (length s) q) ∙ f
+      go false q = begins-short s line (leb-false (length line) (length s) q)
+
+  not-heard : Hears (s ++ t) None → read_line s ≡ line_bad
+  not-heard hears = bad (not-begun (sym (ap (λ (g : Guess). begins (s ++ t) (line_for g)) same) ∙ hears))
+
+  module _ (h : Heard) (hears : Hears (s ++ t) (Some h)) where
+    there : begins (s ++ t) line ≡ true
+    there = sym (ap (λ (g : Guess). begins (s ++ t) (line_for g)) same) ∙ hears.0
+
+    bytes : h.bytes ≡ length line
+    bytes = hears.1 ∙ ap (λ (g : Guess). length (line_for g)) same
 
     parcels : length ps ≡ h.parcels
-    parcels = sym (hears.1 ∙ ap (λ (g : Guess). length (parcels_for g)) same)
+    parcels = sym (hears.2 ∙ ap (λ (g : Guess). length (parcels_for g)) same)
 
-    begun : length line ≤ length s → begins s line ≡ begins (s ++ t) line
-    begun k = sym (begins-more s t line k)
+    last : h.last ≡ ends_text g
+    last = hears.3 ∙ ap ends_text same
 
-    -- no bytes, or more than are left: it is not the line
-    no_bytes : h.bytes ≡ 0 → begins s line ≡ false
-    no_bytes e = go (begins (s ++ t) line) refl bytes
-      where
-        go : (b : Bool) → begins (s ++ t) line ≡ b → h.bytes ≡ pick b (length line) 0 → begins s line ≡ false
-        go true f k = let n = least in absurd (omega (arith, e, n))
-        go false f k = by_length (leb (length line) (length s)) refl
-          where
-            by_length : (b : Bool) → leb (length line) (length s) ≡ b → begins s line ≡ false
-            by_length true q = begun (leb-true (length line) (length s) q) ∙ f
-            by_length false q = begins-short s line (leb-false (length line) (length s) q)
-
+    -- more bytes than are left: it is not the line
     over-long : length s < h.bytes → begins s line ≡ false
-    over-long l = go (begins (s ++ t) line) bytes
-      where
-        go : (b : Bool) → h.bytes ≡ pick b (length line) 0 → begins s line ≡ false
-        go true k = begins-short s line (omega arith)
-        go false k = absurd (omega arith)
-
-    bad : begins s line ≡ false → read_line s ≡ line_bad
-    unfolding read_line line_is
-    bad e = line-by s g ∙ go (ends_text g)
-      where
-        go : (b : Bool) → pick b (if_last (line_is s line ps)) (line_is s line ps) ≡ line_bad
-        go true = rw e
-        go false = rw e
+    over-long l = let e = bytes in begins-short s line (omega arith)
 
     -- else it is
-    module _ (some : h.bytes ≡ 0 → ⊥) (enough : h.bytes ≤ length s) where
-      it : (begins s line ≡ true) × (h.bytes ≡ length line)
-      it = go (begins (s ++ t) line) refl bytes
-        where
-          go : (b : Bool) → begins (s ++ t) line ≡ b → h.bytes ≡ pick b (length line) 0 → (begins s line ≡ true) × (h.bytes ≡ length line)
-          go true f k = (begun (omega arith) ∙ f, k)
-          go false f k = absurd (some k)
-
-      rest : drop (length line) s ≡ drop (at + h.bytes) text
-      rest = drop-drop (length line) at text ∙ ap (λ (n : ℕ). drop (at + n) text) (sym it.1)
+    module _ (enough : h.bytes ≤ length s) where
+      it : begins s line ≡ true
+      it = let e = bytes in begun (omega arith) ∙ there
 
       left_over : length (drop (length line) s) ≡ length s - h.bytes
-      left_over = length-drop (length line) s ∙ ap (λ (n : ℕ). length s - n) (sym it.1)
+      left_over = length-drop (length line) s ∙ ap (λ (n : ℕ). length s - n) (sym bytes)
 
       good : line_is s line ps ≡ line_good ps (drop (length line) s)
       unfolding line_is
-      good = rw it.0
+      good = rw it
 
       read_plain : h.last ≡ false → read_line s ≡ line_good ps (drop (length line) s)
       unfolding read_line
@@ -260,57 +254,49 @@ module _ (text : List ℕ) (at : ℕ) (more : at < length text) (t : List ℕ) (
       unfolding read_line
       read-last e = line-by s g ∙ rw (sym last ∙ e) (ap if_last good)
 
-      reads : read_line s ≡ line_good ps (drop (length line) s) → ReadsAs text at (read_line s) (ALine h.parcels (at + h.bytes))
+      reads : read_line s ≡ line_good ps (drop (length line) s) → ReadsAs s (read_line s) (Some (record { parcels = h.parcels; bytes = h.bytes }))
       reads e =
-          let n = left in
           let two = parcels-most g in
           let long = least in
-          let size = it.1 in
-          let count = parcels in
-          ((ps, e ∙ ap (λ (l : List ℕ). line_good ps l) rest, parcels), omega (arith, two, long, size, count), omega (arith, long, size), omega (arith, n))
+          let size = bytes in
+          let count = parcels in (
+            (ps, e ∙ ap (λ (n : ℕ). line_good ps (drop n s)) (sym bytes), parcels),
+            omega (arith, two, long, size, count),
+            omega (arith, long, size),
+            enough,
+          )
 
-    pub line-heard : ReadsAs text at (read_line s) (read_as at (length text - at) h)
-    line-heard = go (eqb h.bytes 0) (ltb (length text - at) h.bytes) h.last (ltb h.bytes (length text - at)) refl refl refl refl
+    heard : ReadsAs s (read_line s) (read_as (length s) h)
+    heard = go (ltb (length s) h.bytes) h.last (ltb h.bytes (length s)) refl refl refl
       where
-        n : length s ≡ length text - at
-        n = left
+        go : (b c d : Bool) → ltb (length s) h.bytes ≡ b → h.last ≡ c → ltb h.bytes (length s) ≡ d
+            → ReadsAs s (read_line s) (pick (b || c && d) None (Some (record { parcels = h.parcels; bytes = h.bytes })))
+        go true c d f k l = bad (over-long (ltb-true (length s) h.bytes f))
+        go false true true f k l =
+            let enough = ltb-false (length s) h.bytes f in
+            let less = ltb-true h.bytes (length s) l in
+            let over = left_over enough in
+            read-last enough k ∙ last_more ps (drop (length line) s) (omega (arith, less, over))
+        go false true false f k l =
+            let enough = ltb-false (length s) h.bytes f in
+            let all = ltb-false h.bytes (length s) l in
+            let over = left_over enough in
+            reads enough (read-last enough k ∙ last_empty ps (drop (length line) s) (omega (arith, all, over)))
+        go false false d f k l = let enough = ltb-false (length s) h.bytes f in reads enough (read_plain enough k)
 
-        go : (a b c d : Bool) → eqb h.bytes 0 ≡ a → ltb (length text - at) h.bytes ≡ b → h.last ≡ c → ltb h.bytes (length text - at) ≡ d
-            → ReadsAs text at (read_line s) (pick a NoLine (pick b NoLine (pick (c && d) NoLine (ALine h.parcels (at + h.bytes)))))
-        go true b c d e f k l = bad (no_bytes (eqb-true h.bytes 0 e))
-        go false true c d e f k l = let q = n in bad (over-long (let r = ltb-true (length text - at) h.bytes f in omega (arith, q, r)))
-        go false false true true e f k l =
-            let some = eqb-false h.bytes 0 e in
-            let q = n in
-            let enough : h.bytes ≤ length s = (let r = ltb-false (length text - at) h.bytes f in omega (arith, q, r)) in
-            let less = ltb-true h.bytes (length text - at) l in
-            let over = left_over some enough in
-            read-last some enough k ∙ last_more ps (drop (length line) s) (omega (arith, q, less, over))
-        go false false true false e f k l =
-            let some = eqb-false h.bytes 0 e in
-            let q = n in
-            let enough : h.bytes ≤ length s = (let r = ltb-false (length text - at) h.bytes f in omega (arith, q, r)) in
-            let all = ltb-false h.bytes (length text - at) l in
-            let over = left_over some enough in
-            reads some enough (read-last some enough k ∙ last_empty ps (drop (length line) s) (omega (arith, q, all, over)))
-        go false false false d e f k l =
-            let some = eqb-false h.bytes 0 e in
-            let q = n in
-            let enough : h.bytes ≤ length s = (let r = ltb-false (length text - at) h.bytes f in omega (arith, q, r)) in
-            reads some enough (read_plain some enough k)
+  with-heard : (r : Option Heard) → Hears (s ++ t) r → HeardRight s r
+  with-heard (Some h) hears = heard h hears
+  with-heard None hears = not-heard hears
 
--- heard of the rest of a text itself, and of that and newlines
-module _ (text : List ℕ) (at : ℕ) (more : at < length text) (h : Heard) where
-  pub heard-here : Hears (drop at text) h → ReadsAs text at (read_line (drop at text)) (read_as at (length text - at) h)
-  heard-here hears =
-      let none : drop at text ++ [] ≡ drop at text = append-nil (drop at text) in
-      line-heard text at more [] h (ap guess_of none) (subst (λ (l : List ℕ). Hears l h) (sym none) hears) (first_below (drop at text))
-      (second_below (drop at text))
+-- a text begins with its first 32 bytes
+pub chunk-whole : (s w : List ℕ) → w ≡ take 32 s → w ++ drop 32 s ≡ s
+chunk-whole s w e = ap (λ (l : List ℕ). l ++ drop 32 s) e ∙ take-append-drop 32 s
 
-  pub heard-padded : (rest : List ℕ) → rest ≡ sets (replicate 64 10) 0 (drop at text) → length text < at + 32 → Hears rest h
-      → ReadsAs text at (read_line (drop at text)) (read_as at (length text - at) h)
-  heard-padded rest e short hears =
-      let s = drop at text in
-      let long = length-drop at text in
-      let is : rest ≡ s ++ pads s = e ∙ padded s (omega (arith, long)) in
-      line-heard text at more (pads s) h (guess-padded s) (subst (λ (l : List ℕ). Hears l h) is hears) (first_below s) (second_below s)
+-- of a text itself, and of one with newlines after it
+pub heard-here : (s : List ℕ) (r : Option Heard) → Hears s r → HeardRight s r
+heard-here s r hears =
+    let none : s ++ [] ≡ s = append-nil s in
+    with-heard s [] (ap guess_of none) r (subst (λ (l : List ℕ). Hears l r) (sym none) hears)
+
+pub heard-padded : (s : List ℕ) (r : Option Heard) → Hears (s ++ pads s) r → HeardRight s r
+heard-padded s r hears = with-heard s (pads s) (guess-padded s) r hears

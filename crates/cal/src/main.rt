@@ -5,7 +5,6 @@
 
 ghost use Rattle.std.specs.Prelude.{◌+◌, ◌*◌, ◌≤◌, length};
 
-use octal::Address;
 use std::env::{Env, FillError};
 use std::io::{self, Write};
 
@@ -23,8 +22,8 @@ fn asked(rt: &impl Env) -> Task {
     match (rt.arg(1, &mut word), rt.arg(2, &mut [])) {
         (Err(FillError::NotPresent), _) => Task::Octal,
         (Ok(n), Err(FillError::NotPresent)) => match octal::word_address(&word[..n]) {
-            Address::At(a) => Task::Words(a),
-            Address::NoAddress => Task::Unknown,
+            Some(a) => Task::Words(a),
+            None => Task::Unknown,
         },
         _ => Task::Unknown,
     }

@@ -2,28 +2,11 @@
 // line of a file says for which of the two its text is.
 #![tactic(auto)]
 
-ghost use Rattle.std.specs.Prelude.{◌≡◌, true, ◌≤◌, length};
+ghost use Rattle.std.specs.Prelude.{◌≡◌, ◌≤◌, length};
 
 use std::fs::{self, Files};
 use std::io::{self, Write};
 use std::str;
-
-// Whether a file begins with a line.
-fn begins(file: &[u8], line: &[u8]) -> bool
-    ensures { result ≡ true → length line.now ≤ length file.now }
-{
-    if file.len() < line.len() {
-        return false;
-    }
-    let mut i: usize = 0;
-    while i < line.len() {
-        if file[i] != line[i] {
-            return false;
-        }
-        i += 1;
-    }
-    true
-}
 
 // The answer to a file, whose text has at most 32,763 parcels.
 fn answer(file: &[u8], out: &mut [u8]) -> usize
@@ -31,11 +14,11 @@ fn answer(file: &[u8], out: &mut [u8]) -> usize
     ensures { result ≤ 229648 }
 {
     let mut parcels = [0u16; 32768];
-    if begins(file, b"assemble\n") {
-        return desk::cal(&file[9..], &mut parcels, out);
+    if let Some(text) = file.strip_prefix(b"assemble\n") {
+        return desk::cal(text, &mut parcels, out);
     }
-    if begins(file, b"list\n") {
-        return desk::listing(&file[5..], &mut parcels, out);
+    if let Some(text) = file.strip_prefix(b"list\n") {
+        return desk::listing(text, &mut parcels, out);
     }
     0
 }

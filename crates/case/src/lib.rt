@@ -1,25 +1,24 @@
 // The whole answer to a case sheet: read, start, run, report.
 #![tactic(auto)]
 
-ghost use Rattle.std.specs.Prelude.{◌≡◌, ◌≤◌, length};
-ghost use Rattle.machine.specs.declared.Stray.TheVariants.{Clean};
+ghost use Rattle.std.specs.Prelude.{◌≡◌, ◌≤◌, length, None, Ok};
 ghost use Rattle.machine.specs.State.{sharing};
 ghost use Rattle.machine.specs.Run.{start_of, ended, run_of};
 ghost use Rattle.machine.specs.Layout.{state_of};
 ghost use Rattle.text.specs.Report.{Wrote};
 ghost use Rattle.case.specs.Case.{answer_of};
 
-use text::Sheet;
+use machine::Words;
 use turns::run::Ran;
 
 // Starts processor 0 from package 0, and runs it.
-fn run_package(r: &mut [u64; 672], mem: &mut [u64], steps: u64) -> Ran
+fn run_package(r: &mut Words, mem: &mut [u64], steps: u64) -> Ran
     requires { (length mem.old ≡ 4096) × (steps ≤ 1000000) }
-    ensures { ended result.ending result.stray result.steps (state_of r.new) (sharing mem.new)
-        ≡ run_of steps Clean 0 (start_of mem.old 0 0) (sharing mem.old) }
+    ensures { ended (Ok result.ending) result.stray result.steps (state_of r.new) (sharing mem.new)
+        ≡ run_of steps None 0 (start_of mem.old 0 0) (sharing mem.old) }
 {
-    xmp::start(r, mem, 0, 0);
-    xmp::run(r, mem, steps)
+    xmp::start(r, mem, 0, 0).unwrap();
+    xmp::run(r, mem, steps).unwrap()
 }
 
 // Writes the answer to a sheet at the start of out, as much of it as fits, and answers its whole length: at most 22 bytes for
@@ -30,14 +29,12 @@ pub fn answer(sheet: &[u8], out: &mut [u8]) -> usize
 {
     let mut mem = [0u64; 4096];
     match text::read(sheet, &mut mem) {
-        Sheet::Good(steps) => {
+        Ok(steps) => {
             let before = mem;
             let mut r = [0u64; 672];
             let ran = run_package(&mut r, &mut mem, steps);
-            let ending = ran.ending;
-            let stray = ran.stray;
-            text::report(ending, stray, ran.steps, &r, &before, &mem, out)
+            text::report(Ok(ran.ending), ran.stray, ran.steps, &r, &before, &mem, out)
         }
-        Sheet::Bad(line) => text::refused(line, out),
+        Err(bad) => text::refused(bad.line, out),
     }
 }

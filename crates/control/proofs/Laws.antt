@@ -39,10 +39,10 @@ no-digits x = go (eqb (i_of x) 0) (eqb (j_of x) 0) (eqb (k_of x) 0) refl refl re
 abbrev modes : List Code
 modes = holds_none ∷ holds_none ∷ holds_none ∷ holds_one set_ior ∷ holds_one clear_ior ∷ holds_one clear_bdm ∷ holds_one set_bdm ∷ holds_one pass ∷ []
 
-pub mode : (b : Bool) (x len i k : ℕ) → (len ≡ 672) × (x / 512 ≡ 0o002) × (j_of x ≡ 0) × (k_of x ≡ 0) × (0 < i_of x) → i ≡ i_of x
+pub mode : (b : Bool) (x i k : ℕ) → (x / 512 ≡ 0o002) × (j_of x ≡ 0) × (k_of x ≡ 0) × (0 < i_of x) → i ≡ i_of x
     → i ≡ k → code_of b x ≡ nth modes k
 unfolding code_of code002
-mode b x len i k h e m = rw (h.1, h.2, h.3, ne_eqb (i_of x) 0 (λ z. omega (arith, h.4)), ← e, m)
+mode b x i k h e m = rw (h.0, h.1, h.2, ne_eqb (i_of x) 0 (λ z. omega (arith, h.3)), ← e, m)
 
 pub no_mode : (i : ℕ) → (i ≡ 3 → ⊥) → (i ≡ 4 → ⊥) → (i ≡ 5 → ⊥) → (i ≡ 6 → ⊥) → (i ≡ 7 → ⊥)
     → nth modes i ≡ holds_none

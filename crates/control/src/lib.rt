@@ -11,7 +11,7 @@ ghost use Rattle.access.specs.Window.{Reaches};
 ghost use Rattle.access.specs.Executed.{Executes, Alone, Puts, Control, to_control};
 ghost use Rattle.control.specs.Control.{test_code, test_of, nothing_at};
 
-use machine::{Fetched, ParcelAddr, Reach, Work};
+use machine::{ParcelAddr, Reach, Words, Work};
 
 // The digits i, j and k are 0.
 fn no_digits(x: u64) -> bool
@@ -45,9 +45,8 @@ pub fn normal_exit(x: u64) -> Work
 }
 
 // The end of an instruction that sets the control register at a place.
-fn put_control(r: &mut [u64], place: usize, y: u64) -> Work
-    requires whole { length r.old ≡ 672 }
-    requires control { Control place }
+fn put_control(r: &mut Words, place: usize, y: u64) -> Work
+    requires { Control place }
     ensures { (result ≡ PastOne) × Puts r.old r.new (to_control place y) }
 {
     access::set_control(r, place, y);
@@ -62,8 +61,8 @@ fn passes(user: bool, x: u64) -> bool
 }
 
 // 001ijk: 0013j0 sets XA from bits 2^4 to 2^11 of Aj in monitor mode, and passes in user mode.
-pub fn privileged(r: &mut [u64], x: u64) -> Work
-    requires { (length r.old ≡ 672) × (x / 512 ≡ 0o001) }
+pub fn privileged(r: &mut Words, x: u64) -> Work
+    requires { x / 512 ≡ 0o001 }
     ensures { Alone result r.old r.new x }
 {
     let user = access::is_user(r);
@@ -83,8 +82,8 @@ pub fn privileged(r: &mut [u64], x: u64) -> Work
 }
 
 // 002300 to 002600: IOR set and cleared, BDM cleared and set. 002700 passes.
-fn set_mode(r: &mut [u64], x: u64) -> Work
-    requires { (length r.old ≡ 672) × (x / 512 ≡ 0o002) × (j_of x ≡ 0) × (k_of x ≡ 0) × (0 < i_of x) }
+fn set_mode(r: &mut Words, x: u64) -> Work
+    requires { (x / 512 ≡ 0o002) × (j_of x ≡ 0) × (k_of x ≡ 0) × (0 < i_of x) }
     ensures { Alone result r.old r.new x }
 {
     match access::i(x) {
@@ -98,8 +97,8 @@ fn set_mode(r: &mut [u64], x: u64) -> Work
 }
 
 // 00200k: VL from Ak. 002i00: the modes.
-pub fn modes(r: &mut [u64], x: u64) -> Work
-    requires { (length r.old ≡ 672) × (x / 512 ≡ 0o002) }
+pub fn modes(r: &mut Words, x: u64) -> Work
+    requires { x / 512 ≡ 0o002 }
     ensures { Alone result r.old r.new x }
 {
     if access::j(x) != 0 {
@@ -116,8 +115,8 @@ pub fn modes(r: &mut [u64], x: u64) -> Work
 }
 
 // 0030j0: VM from Sj.
-pub fn set_mask(r: &mut [u64], x: u64) -> Work
-    requires { (length r.old ≡ 672) × (x / 512 ≡ 0o003) }
+pub fn set_mask(r: &mut Words, x: u64) -> Work
+    requires { x / 512 ≡ 0o003 }
     ensures { Alone result r.old r.new x }
 {
     if access::i(x) == 0 && access::k(x) == 0 {
@@ -128,12 +127,12 @@ pub fn set_mask(r: &mut [u64], x: u64) -> Work
 }
 
 // 0050jk: to Bjk.
-pub fn jump_b(r: &[u64], x: u64) -> Work
-    requires { (length r.now ≡ 672) × (x / 512 ≡ 0o005) }
+pub fn jump_b(r: &Words, x: u64) -> Work
+    requires { x / 512 ≡ 0o005 }
     ensures { Alone result r.now r.now x }
 {
     if access::i(x) == 0 {
-        Work::To(ParcelAddr(access::b_jk(r, x) % 16777216))
+        Work::To(ParcelAddr(access::b_jk(r, x) % (1 << 24)))
     } else {
         Work::NotHeld
     }
@@ -148,30 +147,30 @@ fn to(x: u64, m: u64) -> Work
 }
 
 // 006ijkm: to ijkm.
-pub fn jump(r: &[u64], mem: &[u64], f: Reach, p: ParcelAddr, x: u64) -> Work
-    requires whole { (length r.now ≡ 672) × (x / 512 ≡ 0o006) }
+pub fn jump(r: &Words, mem: &[u64], f: Reach, p: ParcelAddr, x: u64) -> Work
+    requires coded { x / 512 ≡ 0o006 }
     requires reaches { Reaches (frame_of r.now) f (length mem.now) }
     ensures { Executes result r.now r.now mem.now mem.now p.0 x }
 {
     if 4 <= access::i(x) {
         return Work::NotHeld;
     }
-    let Fetched::Parcel(m) = access::fetch(mem, f, access::on(p, 1)) else {
+    let Some(m) = access::fetch(mem, f, access::on(p, 1)) else {
         return access::no_parcel(r);
     };
     to(x, m)
 }
 
-// 007ijkm: to ijkm, and B00 becomes the address past the instruction.
-pub fn return_jump(r: &mut [u64], mem: &[u64], f: Reach, p: ParcelAddr, x: u64) -> Work
-    requires whole { (length r.old ≡ 672) × (x / 512 ≡ 0o007) }
+// 007ijkm: to ijkm, and B00 becomes the address past the instruction. `jump` is lent its words to be read, and so is a function of its own.
+pub fn return_jump(r: &mut Words, mem: &[u64], f: Reach, p: ParcelAddr, x: u64) -> Work
+    requires coded { x / 512 ≡ 0o007 }
     requires reaches { Reaches (frame_of r.old) f (length mem.now) }
     ensures { Executes result r.old r.new mem.now mem.now p.0 x }
 {
     if 4 <= access::i(x) {
         return Work::NotHeld;
     }
-    let Fetched::Parcel(m) = access::fetch(mem, f, access::on(p, 1)) else {
+    let Some(m) = access::fetch(mem, f, access::on(p, 1)) else {
         return access::no_parcel(r);
     };
     let past = access::on(p, 2);
@@ -179,7 +178,8 @@ pub fn return_jump(r: &mut [u64], mem: &[u64], f: Reach, p: ParcelAddr, x: u64) 
     to(x, m)
 }
 
-// What 010 to 017 test: A0 or S0 zero, not zero, its sign clear, set.
+// What 010 to 017 test: A0 or S0 zero, not zero, its sign clear, set. No closure: the table of codes would have eight in place of the eight
+// names, each with a proof that it is what its code tests, and eight copies of `branch`.
 #[derive(Clone, Copy)]
 pub enum Test {
     ZeroA,
@@ -193,29 +193,28 @@ pub enum Test {
 }
 
 // Whether a test holds.
-fn holds(r: &[u64], test: Test) -> bool
-    requires { length r.now ≡ 672 }
+fn holds(r: &Words, test: Test) -> bool
     ensures { result ≡ test_of test (registers_of r.now) }
 {
     match test {
         Test::ZeroA => access::a_0(r) == 0,
         Test::NonZeroA => access::a_0(r) != 0,
-        Test::PlusA => !(8388607 < access::a_0(r)),
-        Test::MinusA => 8388607 < access::a_0(r),
+        Test::PlusA => access::a_0(r) < 1 << 23,
+        Test::MinusA => 1 << 23 <= access::a_0(r),
         Test::ZeroS => access::s_0(r) == 0,
         Test::NonZeroS => access::s_0(r) != 0,
-        Test::PlusS => !(9223372036854775807 < access::s_0(r)),
-        Test::MinusS => 9223372036854775807 < access::s_0(r),
+        Test::PlusS => access::s_0(r) < 1 << 63,
+        Test::MinusS => 1 << 63 <= access::s_0(r),
     }
 }
 
 // 010 to 017: to ijkm where the test holds; with the high bit of i set, Ah becomes ijkm.
-pub fn branch(r: &mut [u64], mem: &[u64], f: Reach, p: ParcelAddr, x: u64, test: Test) -> Work
-    requires whole { (length r.old ≡ 672) × (x / 512 ≡ test_code test) }
+pub fn branch(r: &mut Words, mem: &[u64], f: Reach, p: ParcelAddr, x: u64, test: Test) -> Work
+    requires coded { x / 512 ≡ test_code test }
     requires reaches { Reaches (frame_of r.old) f (length mem.now) }
     ensures { Executes result r.old r.new mem.now mem.now p.0 x }
 {
-    let Fetched::Parcel(m) = access::fetch(mem, f, access::on(p, 1)) else {
+    let Some(m) = access::fetch(mem, f, access::on(p, 1)) else {
         return access::no_parcel(r);
     };
     if 4 <= access::i(x) {

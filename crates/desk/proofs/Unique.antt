@@ -1,17 +1,17 @@
 -- Two results of the programs that assemble and list that the statements allow are equal: the bytes, how many, and the room. Assumes
 -- nothing.
+use Rattle.std.specs.Prelude.{Result, Ok, Err}
 use Prim.Native.Nat.{ℕ}
-use mathlib.Core.Path.{◌≡◌, refl, sym, ap, ◌∙◌, subst}
+use mathlib.Core.Path.{◌≡◌, sym, ap, ◌∙◌, subst}
 use mathlib.Core.List.{List}
 use native.Mathlib.Omega.{arith}
 use lib.ListN.{length, take}
+use lib.Seq.{length-take-le}
 use Rattle.text.specs.Report.{Wrote}
 use Rattle.text.proofs.Unique.{wrote-unique}
 use Rattle.spelling.specs.Listing.{parcels_in}
-use Rattle.desk.specs.declared.Input.{Input}
-use Rattle.desk.specs.declared.Input.TheVariants.{Holds, Refused}
+use Rattle.desk.specs.declared.Refused.{Refused}
 use Rattle.desk.specs.Desk.{Given, cal_given, octal_given, room_given, cal_of, cal_words_of, listing_of, wide_line, Gives}
-use Rattle.desk.proofs.Texts.{held}
 
 module _ (room room' room'' out out' out'' : List ℕ) where
   -- an answer and the room after it: one law of the three programs
@@ -36,26 +36,22 @@ module _ (room room' room'' out out' out'' : List ℕ) where
         → Answers (listing_of (length room) m text) (octal_given (length room) text) room'' out'' n' → (out' ≡ out'') × (n ≡ n') × (room' ≡ room'')
     listing-unique = once _ (octal_given (length room) text) n n'
 
-  -- what a text gives, read or assembled
-  given : (g : Given) (r r' : Input) → Gives g room' out out' r → Gives g room'' out out'' r' → (r ≡ r') × (out' ≡ out'')
-  given g (Holds n) (Holds m) h k =
-      let a = h.holds n refl in
-      let b = k.holds m refl in
-      let same : take n room' ≡ take m room'' = let e = sym a.0 ∙ b.0 in cc in
-      let count : n ≡ m = sym (held h n refl) ∙ ap length same ∙ held k m refl in
-      (ap Holds count, a.3 ∙ sym b.3)
-  given g (Holds n) (Refused m) h k =
-      let e = sym (h.holds n refl).0 ∙ (k.refused m refl).0.1 in let z : ◌≡◌ {A = ℕ} 0 1 = cc in absurd (omega arith)
-  given g (Refused n) (Holds m) h k =
-      let e = sym (k.holds m refl).0 ∙ (h.refused n refl).0.1 in let z : ◌≡◌ {A = ℕ} 0 1 = cc in absurd (omega arith)
-  given g (Refused n) (Refused m) h k =
-      let a = (h.refused n refl).0 in
-      let b = (k.refused m refl).0 in
+  -- what a text gives
+  given : (g : Given) (r r' : Result ℕ Refused) → Gives g room' out out' r → Gives g room'' out out'' r' → (r ≡ r') × (out' ≡ out'')
+  given g (Ok n) (Ok m) h k =
+      let same : take n room' ≡ take m room'' = let e = sym h.0 ∙ k.0 in cc in
+      let count : n ≡ m = sym (length-take-le n room' h.1) ∙ ap length same ∙ length-take-le m room'' k.1 in
+      (ap Ok count, h.3 ∙ sym k.3)
+  given g (Ok n) (Err m) h k = let e = sym h.0 ∙ k.0.1 in let z : ◌≡◌ {A = ℕ} 0 1 = cc in absurd (omega arith)
+  given g (Err n) (Ok m) h k = let e = sym k.0 ∙ h.0.1 in let z : ◌≡◌ {A = ℕ} 0 1 = cc in absurd (omega arith)
+  given g (Err n) (Err m) h k =
+      let a = h.0 in
+      let b = k.0 in
       let same : b.0 ≡ a.0 = let e = sym a.1 ∙ b.1 in cc in
-      let w = wrote-unique out 0 a.0 out' out'' n m a.2 (subst (λ (s : List ℕ). Wrote out 0 s out'' m) same b.2) in
-      (ap Refused w.1, w.0)
+      let w = wrote-unique out 0 a.0 out' out'' n.bytes m.bytes a.2 (subst (λ (s : List ℕ). Wrote out 0 s out'' m.bytes) same b.2) in
+      (ap (λ (j : ℕ). Err (record { bytes = j })) w.1, w.0)
 
-  pub read-unique : (text : List ℕ) (r r' : Input)
+  pub read-unique : (text : List ℕ) (r r' : Result ℕ Refused)
       → Gives (octal_given (length room) text) room' out out' r × (room' ≡ room_given (octal_given (length room) text) room)
       → Gives (octal_given (length room) text) room'' out out'' r' × (room'' ≡ room_given (octal_given (length room) text) room)
       → (r ≡ r') × (out' ≡ out'') × (room' ≡ room'')

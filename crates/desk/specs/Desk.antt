@@ -1,5 +1,5 @@
 -- The whole answers of the programs `cal` and `listing`. Assumes nothing.
-use Rattle.std.specs.Prelude.{ℕ, ◌+◌, ◌-◌, ◌%◌, ◌≤◌, ◌≡◌, List, [], ◌∷◌, ◌++◌, length, take, replicate, leb, ltb}
+use Rattle.std.specs.Prelude.{ℕ, ◌+◌, ◌-◌, ◌%◌, ◌≤◌, ◌≡◌, List, [], ◌∷◌, ◌++◌, length, take, replicate, leb, ltb, Result, Ok, Err}
 use Rattle.std.proofs.lemmas.List.Edits.{sets}
 use Rattle.machine.specs.Word.{pick}
 use Rattle.text.specs.Digits.{digits, shown}
@@ -10,9 +10,9 @@ use Rattle.spelling.specs.Assembling as cal
 use Rattle.octal.specs.Lines as octal
 use Rattle.octal.specs.Lines.{octal_of, parcels_text}
 use Rattle.octal.specs.Words.{words_for, words_text}
-use Rattle.octal.specs.Refusals.{refused_text, refused_line}
-use Rattle.desk.specs.declared.Input.{Input}
-use Rattle.desk.specs.declared.Input.TheVariants.{Holds, Refused}
+use Rattle.octal.specs.Refusals.{refused_text, refused_line, error_text}
+use Rattle.spelling.specs.declared.ReadError.{ReadError}
+use Rattle.desk.specs.declared.Refused.{Refused}
 
 -- what a text gives: parcels, or the text of a refusal
 pub data Given : Type 0 where
@@ -97,7 +97,12 @@ unfoldable pub wide_line : ℕ → List ℕ → List ℕ
 wide_line a [] = []
 wide_line a (x ∷ ps) = column a ++ blanks 2 ++ first_parcels (x ∷ ps) ++ first_line (x ∷ ps)
 
--- what a call that reads a text says of it: the room is then `room`, the buffer was `out` and is `out'`
-pub record Gives (g : Given) (room out out' : List ℕ) (r : Input) : Type 0 where
-  pub holds : (n : ℕ) → r ≡ Holds n → (g ≡ some (take n room)) × (n ≤ length room) × (n ≤ 1048576) × (out' ≡ out)
-  pub refused : (n : ℕ) → r ≡ Refused n → ((s : List ℕ) × (g ≡ refusal s) × Wrote out 0 s out' n) × (n ≤ 272)
+-- what a call that reads a text into a room says of it: so many parcels are there, or why none are
+abbrev pub Stands : Given → List ℕ → Result ℕ ReadError → Type 0
+Stands g room (Ok n) = (g ≡ some (take n room)) × (n ≤ length room) × (n ≤ 1048576)
+Stands g room (Err e) = g ≡ refusal (error_text e)
+
+-- the same of one that writes the refusal: the buffer was `out` and is `out'`
+abbrev pub Gives : Given → List ℕ → List ℕ → List ℕ → Result ℕ Refused → Type 0
+Gives g room out out' (Ok n) = (g ≡ some (take n room)) × (n ≤ length room) × (n ≤ 1048576) × (out' ≡ out)
+Gives g room out out' (Err r) = ((s : List ℕ) × (g ≡ refusal s) × Wrote out 0 s out' r.bytes) × (r.bytes ≤ 272)

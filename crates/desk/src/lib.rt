@@ -3,24 +3,23 @@
 #![tactic(auto)]
 
 ghost use Rattle.std.specs.Prelude.{◌≡◌, ◌+◌, ◌*◌, ◌≤◌, ◌<◌, length};
-ghost use Rattle.text.specs.Digits.{digits};
 ghost use Rattle.text.specs.Report.{Wrote};
-ghost use Rattle.spelling.specs.Listing.{data_line, line_of, parcels_in};
-ghost use Rattle.spelling.specs.Rows.{row_of};
-ghost use Rattle.desk.specs.Desk.{Gives, cal_given, octal_given, room_given, cal_of, sheet_words, cal_words_of, listed_in, listing_of, blanks, column};
-ghost use Rattle.desk.specs.Desk.{one_parcel, two_parcels, wide_line};
+ghost use Rattle.spelling.specs.Listing.{parcels_in};
+ghost use Rattle.desk.specs.Desk.{Stands, Gives, cal_given, octal_given, room_given, cal_of, sheet_words, cal_words_of, listed_in, listing_of, blanks, column};
+ghost use Rattle.desk.specs.Desk.{one_parcel, two_parcels, first_parcels, wide_line};
 
-use octal::Reading;
-use spelling::{Assembled, Listed};
+use spelling::{ReadError, TooLong};
 
 // The bytes that a text may have.
 const LONGEST: usize = 1048576;
 
-// What a text gives: so many parcels, or a refusal of so many bytes.
-#[derive(Clone, Copy)]
-pub enum Input {
-    Holds(usize),
-    Refused(usize),
+// The number of a refusal for want of room.
+const NO_ROOM: u64 = 18;
+
+// A refusal that is written: how many bytes it has.
+#[derive(Clone, Copy, Debug, PartialEq, Eq)]
+pub struct Refused {
+    pub bytes: usize,
 }
 
 // How many bytes a line has, and how many parcels it takes.
@@ -30,33 +29,39 @@ pub struct Wide {
     pub parcels: usize,
 }
 
-// Assembles a text of CAL, or writes its refusal.
-fn assemble(text: &[u8], parcels: &mut [u16], out: &mut [u8]) -> Input
-    ensures gives { Gives (cal_given (length parcels.old) text.now) parcels.new out.old out.new result }
+// Assembles a text of CAL. One that is too long has a bad line 0.
+fn assemble(text: &[u8], parcels: &mut [u16]) -> Result<usize, ReadError>
+    ensures gives { Stands (cal_given (length parcels.old) text.now) parcels.new result }
     ensures parcels_after { parcels.new ≡ room_given (cal_given (length parcels.old) text.now) parcels.old }
 {
     if LONGEST < text.len() {
-        return Input::Refused(octal::put_refused_line(out, 10, 0));
+        return Err(ReadError::BadLine(0));
     }
-    match assembly::assemble(text, parcels) {
-        Assembled::Parcels(n) => Input::Holds(n),
-        Assembled::BadLine(line) => Input::Refused(octal::put_refused_line(out, 10, line)),
-        Assembled::Overfull => Input::Refused(octal::put_refused(out, 18)),
-    }
+    assembly::assemble(text, parcels)
 }
 
-// Reads a text of octal parcels, or writes its refusal.
-pub fn read(text: &[u8], parcels: &mut [u16], out: &mut [u8]) -> Input
-    ensures gives { Gives (octal_given (length parcels.old) text.now) parcels.new out.old out.new result }
+// The same of a text of octal parcels. One function for both would take the reader as a closure, and be no plainer: what it promises
+// would be said of whatever the closure does.
+fn read_octal(text: &[u8], parcels: &mut [u16]) -> Result<usize, ReadError>
+    ensures gives { Stands (octal_given (length parcels.old) text.now) parcels.new result }
     ensures parcels_after { parcels.new ≡ room_given (octal_given (length parcels.old) text.now) parcels.old }
 {
     if LONGEST < text.len() {
-        return Input::Refused(octal::put_refused_line(out, 10, 0));
+        return Err(ReadError::BadLine(0));
     }
-    match octal::read(text, parcels) {
-        Reading::Parcels(n) => Input::Holds(n),
-        Reading::BadLine(line) => Input::Refused(octal::put_refused_line(out, 10, line)),
-        Reading::Overfull => Input::Refused(octal::put_refused(out, 18)),
+    octal::read(text, parcels)
+}
+
+// Reads a text of octal parcels, or writes its refusal.
+pub fn read(text: &[u8], parcels: &mut [u16], out: &mut [u8]) -> Result<usize, Refused>
+    ensures gives { Gives (octal_given (length parcels.old) text.now) parcels.new out.old out.new result }
+    ensures parcels_after { parcels.new ≡ room_given (octal_given (length parcels.old) text.now) parcels.old }
+{
+    match read_octal(text, parcels) {
+        Ok(n) => Ok(n),
+        Err(e) => Err(Refused {
+            bytes: octal::put_error(out, e),
+        }),
     }
 }
 
@@ -66,9 +71,9 @@ pub fn cal(text: &[u8], parcels: &mut [u16], out: &mut [u8]) -> usize
         × (parcels.new ≡ room_given (cal_given (length parcels.old) text.now) parcels.old) }
     ensures upper_bound { result ≤ 272 + 7 * length parcels.old }
 {
-    match assemble(text, parcels, out) {
-        Input::Holds(n) => octal::put_parcels(&parcels[..n], out),
-        Input::Refused(n) => n,
+    match assemble(text, parcels) {
+        Ok(n) => octal::put_parcels(&parcels[..n], out),
+        Err(e) => octal::put_error(out, e),
     }
 }
 
@@ -78,11 +83,8 @@ fn put_sheet(parcels: &[u16], address: u64, out: &mut [u8]) -> usize
     ensures { Wrote out.old 0 (sheet_words address parcels.now) out.new result × (result ≤ 90112) }
 {
     let n = octal::words_for(parcels.len()) as u64;
-    if 4096 < address {
-        return octal::put_refused(out, 18);
-    }
-    if 4096 - address < n {
-        return octal::put_refused(out, 18);
+    if 4096 < address.saturating_add(n) {
+        return octal::put_refused(out, NO_ROOM);
     }
     octal::put_words(parcels, address, out)
 }
@@ -93,9 +95,9 @@ pub fn cal_words(text: &[u8], address: u64, parcels: &mut [u16], out: &mut [u8])
         × (parcels.new ≡ room_given (cal_given (length parcels.old) text.now) parcels.old) }
     ensures upper_bound { result ≤ 90112 }
 {
-    match assemble(text, parcels, out) {
-        Input::Holds(n) => put_sheet(&parcels[..n], address, out),
-        Input::Refused(n) => n,
+    match assemble(text, parcels) {
+        Ok(n) => put_sheet(&parcels[..n], address, out),
+        Err(e) => octal::put_error(out, e),
     }
 }
 
@@ -105,8 +107,8 @@ fn put_listing(parcels: &[u16], out: &mut [u8]) -> usize
     ensures upper_bound { 272 ≤ length out.old → result ≤ length out.old }
 {
     match assembly::list(parcels, out) {
-        Listed::Bytes(n) => n,
-        Listed::TooLong => octal::put_refused(out, 18),
+        Ok(n) => n,
+        Err(TooLong) => octal::put_refused(out, NO_ROOM),
     }
 }
 
@@ -117,9 +119,9 @@ pub fn listing(text: &[u8], parcels: &mut [u16], out: &mut [u8]) -> usize
         × (parcels.new ≡ room_given (octal_given (length parcels.old) text.now) parcels.old) }
     ensures upper_bound { 272 ≤ length out.old → result ≤ length out.old }
 {
-    match read(text, parcels, out) {
-        Input::Holds(n) => put_listing(&parcels[..n], out),
-        Input::Refused(n) => n,
+    match read_octal(text, parcels) {
+        Ok(n) => put_listing(&parcels[..n], out),
+        Err(e) => octal::put_error(out, e),
     }
 }
 
@@ -130,12 +132,7 @@ fn put_blanks(out: &mut [u8], at: usize, n: usize) -> usize
     requires { (at ≤ 64) × (n ≤ 16) }
     ensures { Wrote out.old at (blanks n) out.new result × (result ≡ at + n) }
 {
-    let mut i: usize = 0;
-    while i < n {
-        text::put_byte(out, at + i, 32);
-        i += 1;
-    }
-    at + i
+    text::put_text(out, at, &[b' '; 16][..n])
 }
 
 // The address of a parcel, in eight columns. It is written aside first, to see how many digits it has.
@@ -149,55 +146,35 @@ fn put_column(out: &mut [u8], address: u64) -> usize
     text::put_number(out, first, a, 8, 1)
 }
 
-// A parcel.
-fn put_parcel(out: &mut [u8], at: usize, x: u64) -> usize
-    requires { at ≤ 64 }
-    ensures { Wrote out.old at (digits 8 6 x) out.new result × (result ≡ at + 6) }
-{
-    text::put_digits(out, at, x, 8, 6);
-    at + 6
-}
-
 // One parcel in fifteen columns.
-fn put_one(out: &mut [u8], at: usize, x: u64) -> usize
+fn put_one(out: &mut [u8], at: usize, x: u16) -> usize
     requires { at ≤ 32 }
     ensures { Wrote out.old at (one_parcel x) out.new result × (result ≡ at + 15) }
 {
-    let blank = put_parcel(out, at, x);
+    let blank = octal::put_parcel(out, at, x);
     put_blanks(out, blank, 9)
 }
 
 // Two parcels in fifteen columns.
-fn put_two(out: &mut [u8], at: usize, x: u64, m: u64) -> usize
+fn put_two(out: &mut [u8], at: usize, x: u16, m: u16) -> usize
     requires { at ≤ 32 }
     ensures { Wrote out.old at (two_parcels x m) out.new result × (result ≡ at + 15) }
 {
-    let blank = put_parcel(out, at, x);
+    let blank = octal::put_parcel(out, at, x);
     let second = put_blanks(out, blank, 1);
-    let end = put_parcel(out, second, m);
+    let end = octal::put_parcel(out, second, m);
     put_blanks(out, end, 2)
 }
 
-// The line of an instruction, from a place on.
-fn put_cal(out: &mut [u8], at: usize, row: u64, x: u64, m: u64) -> usize
-    requires { (at ≤ 64) × (row ≡ row_of x) × (x < 65536) × (m < 65536) }
-    ensures { Wrote out.old at (line_of x m) out.new result × (result ≤ at + 16) }
+// The parcels of the first instruction, which takes so many.
+fn put_taken(out: &mut [u8], at: usize, parcels: &[u16], taken: usize) -> usize
+    requires { (at ≤ 32) × (0 < length parcels.now) × (taken ≡ parcels_in parcels.now) × (taken ≤ length parcels.now) }
+    ensures { Wrote out.old at (first_parcels parcels.now) out.new result × (result ≡ at + 15) }
 {
-    let forms = line::forms();
-    let operands = line::operands();
-    let mut line = [0u8; 16];
-    let n = line::put_line(&mut line, 0, &forms, &operands, row, x, m);
-    text::put_text(out, at, &line[..n])
-}
-
-// A line of data, from a place on.
-fn put_data(out: &mut [u8], at: usize, x: u64) -> usize
-    requires { (at ≤ 64) × (x < 65536) }
-    ensures { Wrote out.old at (data_line x) out.new result × (result ≤ at + 16) }
-{
-    let mut line = [0u8; 16];
-    let n = line::put_data(&mut line, 0, x);
-    text::put_text(out, at, &line[..n])
+    if taken < 2 {
+        return put_one(out, at, parcels[0]);
+    }
+    put_two(out, at, parcels[0], parcels[1])
 }
 
 // The line of the first instruction of parcels, the first of which has an address.
@@ -206,34 +183,21 @@ pub fn wide_line(parcels: &[u16], address: u64, out: &mut [u8]) -> Wide
     ensures taken { (result.parcels ≡ parcels_in parcels.now) × (result.parcels ≤ length parcels.now) ×
         (0 < length parcels.now → 0 < result.parcels) }
 {
-    if parcels.len() < 1 {
+    if parcels.is_empty() {
         return Wide {
             bytes: 0,
             parcels: 0,
         };
     }
-    let x = parcels[0] as u64;
-    let row = line::row_of(x);
+    let mut line = [0u8; 16];
+    let next = assembly::put_first(&mut line, parcels);
+    let taken = next.parcels;
     let column = put_column(out, address);
     let first = put_blanks(out, column, 2);
-    if !line::has_second(row) {
-        let cal = put_one(out, first, x);
-        return Wide {
-            bytes: put_cal(out, cal, row, x, 0),
-            parcels: 1,
-        };
-    }
-    if parcels.len() < 2 {
-        let cal = put_one(out, first, x);
-        return Wide {
-            bytes: put_data(out, cal, x),
-            parcels: 1,
-        };
-    }
-    let m = parcels[1] as u64;
-    let cal = put_two(out, first, x, m);
+    let cal = put_taken(out, first, parcels, taken);
+    let n = next.to;
     Wide {
-        bytes: put_cal(out, cal, row, x, m),
-        parcels: 2,
+        bytes: text::put_text(out, cal, &line[..n]),
+        parcels: taken,
     }
 }

@@ -7,8 +7,8 @@ use native.Mathlib.Omega.{arith}
 use lib.Dec.{eqb, leb}
 use lib.ListN.{length}
 use borrow.Author.Tests.{eqb-true, ne_eqb, le-leb}
+use Rattle.std.specs.Prelude.{Some, None}
 use Rattle.machine.specs.declared.Reach.{Reach}
-use Rattle.machine.specs.declared.Fetched.TheVariants.{Parcel, Outside}
 use Rattle.machine.specs.declared.Work.{Work}
 use Rattle.machine.specs.State.{user}
 use Rattle.machine.specs.Memory.{fetch_of}
@@ -46,9 +46,8 @@ module _ (x n k : ℕ) (l : x < 2 ^ 16) (e : n ≡ arm_of (x / 512)) (h : n ≡ 
   group s = eqb-true (x / 512 / 8) (k / 8) (sym (s (x / 512)) ∙ arm-says)
 
 -- what the function of a code with an arm of its own asks
-pub alone : {r : List ℕ} {f : Reach} {len x n k : ℕ} → Ready r f len → x < 2 ^ 16 → n ≡ arm_of (x / 512) → n ≡ k
-    → ((c : ℕ) → says k c ≡ eqb c k) → (length r ≡ 672) × (x / 512 ≡ k)
-alone {r} {f} {len} {x} {n} {k} ready l e h s = (ready.long, own x n k l e h s)
+pub alone : {x n k : ℕ} → x < 2 ^ 16 → n ≡ arm_of (x / 512) → n ≡ k → ((c : ℕ) → says k c ≡ eqb c k) → x / 512 ≡ k
+alone {x} {n} {k} l e h s = own x n k l e h s
 
 -- no code has an arm that names no instruction, but 000
 gap-all : every (λ c. not (nothing_at (arm_of c)) || eqb (arm_of c) 0) 128 ≡ true
@@ -129,10 +128,10 @@ pub no_arm : (n : ℕ) → high_arm n ≡ true → NoneOf n high_arms → ⊥
 no_arm n e h = none_of n high_arms h e
 
 -- the work of a step: no parcel, or the instruction that was executed
-pub works-lost : (w : Work) (r mem : List ℕ) (p : ℕ) → fetch_of (frame_of r) mem p ≡ Outside → w ≡ no_parcel (user (frame_of r)) → Works w r r mem mem p
+pub works-lost : (w : Work) (r mem : List ℕ) (p : ℕ) → fetch_of (frame_of r) mem p ≡ None → w ≡ no_parcel (user (frame_of r)) → Works w r r mem mem p
 unfolding work_of present_of done_with
 works-lost w r mem p e h = record { frame = refl; done = rw (e, h, no_stray (user (frame_of r)) r (length mem)) }
 
-pub works-done : (w : Work) (r r' mem mem' : List ℕ) (p x : ℕ) → fetch_of (frame_of r) mem p ≡ Parcel x → Executes w r r' mem mem' p x → Works w r r' mem mem' p
+pub works-done : (w : Work) (r r' mem mem' : List ℕ) (p x : ℕ) → fetch_of (frame_of r) mem p ≡ Some x → Executes w r r' mem mem' p x → Works w r r' mem mem' p
 unfolding work_of present_of
 works-done w r r' mem mem' p x e h = record { frame = h.frame; done = rw e h.done }

@@ -10,11 +10,11 @@ ghost use Rattle.vector.specs.Element.{plain, Vector};
 ghost use Rattle.dispatch.specs.Table.{Ready, Works, arm_of, high_arm};
 
 use control::Test;
-use machine::{Fetched, ParcelAddr, Reach, Work};
+use machine::{ParcelAddr, Reach, Words, Work};
 use memory::File;
 
 // The arm of a code. That all 128 are listed spares the table its range check; codes that name no instruction share the arm of 000, since an
-// arm of their own would cost every step a move.
+// arm of their own would cost every step a move. An arm is told by the octal of its first code, since an enum would give each a third name.
 fn arm(code: u64) -> u64
     requires { code < 128 }
     ensures { result ≡ arm_of code }
@@ -161,7 +161,7 @@ fn held(holds: bool) -> Work
 
 // 140 to 145 and 154 to 157: all 64 elements, or as many as VL says. It gives nothing, and so do the other functions that stay outside the
 // loop of steps: an answer that is handed on in memory would cost every step.
-fn vectors(r: &mut [u64], x: u64)
+fn vectors(r: &mut Words, x: u64)
     requires { Vector r.old × (plain (x / 512) ≡ true) }
     ensures { Alone PastOne r.old r.new x }
 {
@@ -173,15 +173,14 @@ fn vectors(r: &mut [u64], x: u64)
 }
 
 // The end of a block move x, of which a word may have lain outside the data field.
-fn moved(outside: bool, r: &mut [u64], x: u64) -> Work
-    requires { length r.old ≡ 672 }
+fn moved(outside: bool, r: &mut Words, x: u64) -> Work
     ensures { Ends result r.old r.new 1 outside x }
 {
     access::ended(r, 1, outside, x)
 }
 
 // 176i0k: Vi from memory.
-fn read_v(r: &mut [u64], mem: &[u64], f: Reach, x: u64) -> Work
+fn read_v(r: &mut Words, mem: &[u64], f: Reach, x: u64) -> Work
     requires ready { Ready r.old f (length mem.now) }
     requires coded { x / 512 ≡ 0o176 }
     ensures { (p : ℕ) → Executes result r.old r.new mem.now mem.now p x }
@@ -189,11 +188,11 @@ fn read_v(r: &mut [u64], mem: &[u64], f: Reach, x: u64) -> Work
     if access::j(x) != 0 {
         return Work::NotHeld;
     }
-    moved(memory::blocks::read_v(r, mem, f.operands, f.words, x), r, x)
+    moved(memory::blocks::read_v(r, mem, f.operands, x), r, x)
 }
 
 // 1770jk: Vj to memory.
-fn store_v(r: &mut [u64], mem: &mut [u64], f: Reach, x: u64) -> Work
+fn store_v(r: &mut Words, mem: &mut [u64], f: Reach, x: u64) -> Work
     requires ready { Ready r.old f (length mem.old) }
     requires coded { x / 512 ≡ 0o177 }
     ensures { (p : ℕ) → Executes result r.old r.new mem.old mem.new p x }
@@ -201,15 +200,11 @@ fn store_v(r: &mut [u64], mem: &mut [u64], f: Reach, x: u64) -> Work
     if access::i(x) != 0 {
         return Work::NotHeld;
     }
-    moved(
-        memory::blocks::store_v(r, mem, f.operands, f.words, x),
-        r,
-        x,
-    )
+    moved(memory::blocks::store_v(r, mem, f.operands, x), r, x)
 }
 
 // 100 to 177.
-fn from_100(r: &mut [u64], mem: &mut [u64], f: Reach, p: ParcelAddr, x: u64, n: u64) -> Work
+fn from_100(r: &mut Words, mem: &mut [u64], f: Reach, p: ParcelAddr, x: u64, n: u64) -> Work
     requires ready { Ready r.old f (length mem.old) }
     requires x_bound { (x < 2 ^ 16) × (n ≡ arm_of (x / 512)) × (high_arm n ≡ true) }
     ensures { Executes result r.old r.new mem.old mem.new p.0 x }
@@ -244,7 +239,7 @@ fn from_100(r: &mut [u64], mem: &mut [u64], f: Reach, p: ParcelAddr, x: u64, n: 
 }
 
 // 060 to 077.
-fn from_060(r: &mut [u64], mem: &mut [u64], f: Reach, p: ParcelAddr, x: u64, n: u64) -> Work
+fn from_060(r: &mut Words, mem: &mut [u64], f: Reach, p: ParcelAddr, x: u64, n: u64) -> Work
     requires ready { Ready r.old f (length mem.old) }
     requires x_bound { (x < 2 ^ 16) × (n ≡ arm_of (x / 512)) × (0o060 ≤ n) }
     ensures { Executes result r.old r.new mem.old mem.new p.0 x }
@@ -263,7 +258,7 @@ fn from_060(r: &mut [u64], mem: &mut [u64], f: Reach, p: ParcelAddr, x: u64, n: 
 }
 
 // 040 to 057.
-fn from_040(r: &mut [u64], mem: &mut [u64], f: Reach, p: ParcelAddr, x: u64, n: u64) -> Work
+fn from_040(r: &mut Words, mem: &mut [u64], f: Reach, p: ParcelAddr, x: u64, n: u64) -> Work
     requires ready { Ready r.old f (length mem.old) }
     requires x_bound { (x < 2 ^ 16) × (n ≡ arm_of (x / 512)) × (0o040 ≤ n) }
     ensures { Executes result r.old r.new mem.old mem.new p.0 x }
@@ -290,7 +285,7 @@ fn from_040(r: &mut [u64], mem: &mut [u64], f: Reach, p: ParcelAddr, x: u64, n: 
 }
 
 // 020 to 037.
-fn from_020(r: &mut [u64], mem: &mut [u64], f: Reach, p: ParcelAddr, x: u64, n: u64) -> Work
+fn from_020(r: &mut Words, mem: &mut [u64], f: Reach, p: ParcelAddr, x: u64, n: u64) -> Work
     requires ready { Ready r.old f (length mem.old) }
     requires x_bound { (x < 2 ^ 16) × (n ≡ arm_of (x / 512)) × (0o020 ≤ n) }
     ensures { Executes result r.old r.new mem.old mem.new p.0 x }
@@ -307,24 +302,16 @@ fn from_020(r: &mut [u64], mem: &mut [u64], f: Reach, p: ParcelAddr, x: u64, n: 
         0o030 => address::sum(r, x),
         0o031 => address::difference(r, x),
         0o032 => address::product(r, x),
-        0o034 => moved(memory::blocks::read_b(r, mem, f.operands, f.words, x), r, x),
-        0o035 => moved(
-            memory::blocks::store_b(r, mem, f.operands, f.words, x),
-            r,
-            x,
-        ),
-        0o036 => moved(memory::blocks::read_t(r, mem, f.operands, f.words, x), r, x),
-        0o037 => moved(
-            memory::blocks::store_t(r, mem, f.operands, f.words, x),
-            r,
-            x,
-        ),
+        0o034 => moved(memory::blocks::read(r, mem, f.operands, x, true), r, x),
+        0o035 => moved(memory::blocks::store(r, mem, f.operands, x, true), r, x),
+        0o036 => moved(memory::blocks::read(r, mem, f.operands, x, false), r, x),
+        0o037 => moved(memory::blocks::store(r, mem, f.operands, x, false), r, x),
         _ => from_040(r, mem, f, p, x, n),
     }
 }
 
 // 000 to 017.
-fn from_000(r: &mut [u64], mem: &mut [u64], f: Reach, p: ParcelAddr, x: u64, n: u64) -> Work
+fn from_000(r: &mut Words, mem: &mut [u64], f: Reach, p: ParcelAddr, x: u64, n: u64) -> Work
     requires ready { Ready r.old f (length mem.old) }
     requires x_bound { (x < 2 ^ 16) × (n ≡ arm_of (x / 512)) }
     ensures { Executes result r.old r.new mem.old mem.new p.0 x }
@@ -351,12 +338,12 @@ fn from_000(r: &mut [u64], mem: &mut [u64], f: Reach, p: ParcelAddr, x: u64, n: 
 }
 
 // The work of a step at p.
-pub fn work(r: &mut [u64], mem: &mut [u64], f: Reach, p: ParcelAddr) -> Work
+pub fn work(r: &mut Words, mem: &mut [u64], f: Reach, p: ParcelAddr) -> Work
     requires ready { Ready r.old f (length mem.old) }
     requires p_bound { p.0 < 2 ^ 24 }
     ensures { Works result r.old r.new mem.old mem.new p.0 }
 {
-    let Fetched::Parcel(x) = access::fetch(mem, f, p) else {
+    let Some(x) = access::fetch(mem, f, p) else {
         return access::no_parcel(r);
     };
     from_000(r, mem, f, p, x, arm(x / 512))

@@ -1,11 +1,11 @@
 -- What a package makes of a processor's words, and what is saved of them. Assumes nothing.
-use Prim.Native.Nat.{ℕ, suc, ◌+◌, ◌*◌, ◌<◌}
+use Prim.Native.Nat.{ℕ, ◌+◌, ◌*◌, ◌<◌}
 use mathlib.Core.Path.{◌≡◌, ◌∙◌}
 use mathlib.Core.List.{List, ◌++◌}
 use native.Mathlib.Omega.{arith}
-use native.Mathlib.Numerals.{add-one}
-use lib.ListN.{length, get_or, set, take, drop}
-use lib.Seq.{length-take-le, take-suc, drop-cons, append_snoc, set_at, drop-drop}
+use lib.ListN.{get_or, drop}
+use lib.Seq.{drop-drop}
+use Rattle.std.specs.Prelude.{Option}
 use Rattle.machine.specs.declared.Stray.{Stray}
 use Rattle.machine.specs.declared.Answer.TheVariants.{Exchanged}
 use Rattle.machine.specs.Word.{bits}
@@ -16,17 +16,11 @@ use Rattle.machine.specs.Layout.{part, registers_of, frame_of, state_of}
 use Rattle.access.specs.Executed.{FrameOk, ControlOk}
 use Rattle.exchange.specs.Words.{loaded_by, low_words, Narrow}
 
--- a copy of the first n words of s: one word more
-pub copied : (s d r : List ℕ) (n : ℕ) → n < length s → n < length d → r ≡ take n s ++ drop n d → set r n (get_or s n 0) ≡ take (n + 1) s ++ drop (n + 1) d
-copied s d r n h l e =
-    let p : length (take n s) ≡ n = length-take-le n s (omega arith) in
-    rw (e, add-one, take-suc s n 0 h, append_snoc, drop-cons d n 0 l) (set_at (take n s) (get_or d n 0) (drop (suc n) d) (get_or s n 0) n p)
-
 -- the first 32 words of a processor are all but B, T and V
-pub low : (w : ℕ → ℕ) (r r' new : List ℕ) (n : ℕ) → new ≡ low_words w (get_or r 3 0) (get_or r 15 0) → r' ≡ take n new ++ drop n r → n ≡ 32
-    → state_of r' ≡ loaded_by w (registers_of r) (frame_of r)
+pub low : (w : ℕ → ℕ) (r new front : List ℕ) → new ≡ low_words w (get_or r 3 0) (get_or r 15 0) → front ≡ new
+    → state_of (front ++ drop 32 r) ≡ loaded_by w (registers_of r) (frame_of r)
 unfolding registers_of frame_of part
-low w r r' new n e c l = rw (c, l, e, drop-drop 64 32 r, drop-drop 128 32 r)
+low w r new front c e = rw (e, c, drop-drop 64 32 r, drop-drop 128 32 r)
 
 -- only its sixteen words count of a package
 loaded-same : (f g : ℕ → ℕ) (r : Registers) (fr : Frame) → ((n : ℕ) → n < 16 → f n ≡ g n) → loaded_by f r fr ≡ loaded_by g r fr
@@ -86,7 +80,7 @@ module _ (r r' mem mem' old new : List ℕ) (from to p flags : ℕ) (ok : Contro
       → from ≡ bits (get_or old 3 0) 40 8 * 16 → ((n : ℕ) → n < 16 → get_or new n 0 ≡ get_or mem (from + n) 0)
       → to ≡ bits (get_or old 3 0) 40 8 * 16 → mem' ≡ fill to (λ n. get_or old n 0) 16 mem
       → state_of r' ≡ loaded_by (λ n. get_or new n 0) (registers_of r) (frame_of r)
-      → (s : Stray) → out (Exchanged flags) s (state_of r') (sharing mem') ≡ exchange (frame_of r) (registers_of r) p flags s (sharing mem)
+      → (s : Option Stray) → out (Exchanged flags) s (state_of r') (sharing mem') ≡ exchange (frame_of r) (registers_of r) p flags s (sharing mem)
   unfolding exchange save
   swaps o a h b m l s =
       let x : bits (get_or old 3 0) 40 8 ≡ (registers_of r).xa = rw o (saved-xa (frame_of r) (registers_of r) p flags ok few) in

@@ -1,7 +1,7 @@
 // Packages: what an exchange saves and loads. Package x is the sixteen words of memory from 16x on.
 #![tactic(auto)]
 
-ghost use Rattle.std.specs.Prelude.{◌≡◌, ◌*◌, ◌^◌, ◌<◌, ◌≤◌, length, get_or};
+ghost use Rattle.std.specs.Prelude.{◌≡◌, ◌*◌, ◌^◌, ◌<◌, ◌≤◌, length, get_or, Option};
 ghost use Rattle.machine.specs.declared.Stray.{Stray};
 ghost use Rattle.machine.specs.declared.Answer.TheVariants.{Exchanged};
 ghost use Rattle.machine.specs.Word.{bits};
@@ -13,11 +13,11 @@ ghost use Rattle.access.specs.Executed.{FrameOk, ControlOk};
 ghost use Rattle.exchange.specs.Words.{loaded_by, low_words, Narrow};
 
 use access::{A, BDM, CLN, DBA, DLA, FPS, IBA, IFP, ILA, IOR, MM, PROCESSOR, PS, S, VL, VM, XA};
-use machine::ParcelAddr;
+use machine::{ParcelAddr, Words};
 
 // The sixteen words that a processor is saved as.
-fn saved_words(r: &[u64], p: ParcelAddr, flags: u64) -> [u64; 16]
-    requires whole { (length r.now ≡ 672) × (p.0 < 2 ^ 24) × (flags < 512) }
+fn saved_words(r: &Words, p: ParcelAddr, flags: u64) -> [u64; 16]
+    requires whole { (p.0 < 2 ^ 24) × (flags < 512) }
     requires narrow { Narrow r.now }
     ensures { result ≡ package_of (frame_of r.now) (registers_of r.now) p.0 flags }
 {
@@ -95,29 +95,26 @@ fn low_words(w: [u64; 16], vm: u64, number: u64) -> [u64; 32]
 }
 
 // Loads a package's words; B, T, V, VM and the processor's number stay.
-fn load(r: &mut [u64], w: [u64; 16])
-    requires { length r.old ≡ 672 }
+fn load(r: &mut Words, w: [u64; 16])
     ensures { state_of r.new ≡ loaded_by (λ n. get_or w n 0) (registers_of r.old) (frame_of r.old) }
 {
     let new = low_words(w, r[VM], r[PROCESSOR]);
-    for n in 0..32 {
-        r[n] = new[n];
-    }
+    r[..32].copy_from_slice(&new);
 }
 
 // For a start: loads a package.
-pub fn load_package(r: &mut [u64], mem: &[u64], package: u64)
-    requires { (length r.old ≡ 672) × («package» < 256) × (4096 ≤ length mem.now) }
+pub fn load_package(r: &mut Words, mem: &[u64], package: u64)
+    requires { («package» < 256) × (4096 ≤ length mem.now) }
     ensures { state_of r.new ≡ loaded mem.now «package» (registers_of r.old) (frame_of r.old) }
 {
     load(r, access::words::sixteen(mem, package as usize * 16, false));
 }
 
 // The exchange: the old XA chooses the package, which is loaded as it stood, and the old state is saved there, P being p.
-pub fn swap(r: &mut [u64], mem: &mut [u64], p: ParcelAddr, flags: u64)
-    requires whole { (length r.old ≡ 672) × (4096 ≤ length mem.old) × (p.0 < 2 ^ 24) × (flags < 512) }
+pub fn swap(r: &mut Words, mem: &mut [u64], p: ParcelAddr, flags: u64)
+    requires whole { (4096 ≤ length mem.old) × (p.0 < 2 ^ 24) × (flags < 512) }
     requires frame_ok { FrameOk (frame_of r.old) × ControlOk (registers_of r.old) }
-    ensures { (s : Stray) → out (Exchanged flags) s (state_of r.new) (sharing mem.new)
+    ensures { (s : Option Stray) → out (Exchanged flags) s (state_of r.new) (sharing mem.new)
         ≡ exchange (frame_of r.old) (registers_of r.old) p.0 flags s (sharing mem.old) }
 {
     let old = saved_words(r, p, flags);

@@ -9,7 +9,7 @@ ghost use Rattle.machine.specs.Layout.{state_of};
 ghost use Rattle.numbers.specs.Left.{left, after_start, after_step, after_turn, after_run};
 ghost use Rattle.export.specs.Cal.{after_assemble, after_list};
 
-use spelling::{Assembled, Listed};
+use spelling::{ReadError, TooLong};
 
 // A processor started from a package.
 #[unsafe(no_mangle)]
@@ -22,7 +22,10 @@ pub extern "C" fn pulxarrid_start(
     ensures { left result (state_of state.new ∷ []) []
         ≡ after_start (start_call (state_of state.old) mem.now «package» processor) }
 {
-    xmp::start(state, mem, package, processor)
+    match xmp::start(state, mem, package, processor) {
+        Ok(()) => 0,
+        Err(refusal) => refusal.into(),
+    }
 }
 
 // One step: `answer` takes its kind and its value, and its stray's cause and element.
@@ -35,16 +38,15 @@ pub extern "C" fn pulxarrid_step(
     ensures { left result (state_of state.new ∷ []) (mem.new ∷ answer.new ∷ [])
         ≡ after_step answer.old (step_call (state_of state.old) (sharing mem.old)) }
 {
-    let replied = xmp::step(state, mem);
-    let reply = replied.reply;
-    let n = numbers::of_reply(reply);
-    if n[0] != 0 {
-        return n[0];
+    match xmp::step(state, mem) {
+        Ok(replied) => {
+            let n = numbers::kind_of_answer(replied.answer);
+            let s = numbers::of_stray(replied.stray);
+            *answer = [n[0], n[1], s[0], s[1]];
+            0
+        }
+        Err(refusal) => refusal.into(),
     }
-    let stray = replied.stray;
-    let s = numbers::of_stray(stray);
-    *answer = [n[1], n[2], s[0], s[1]];
-    0
 }
 
 // Steps up to and including the first that exchanges or stops, at most `budget`: `report` takes the kind and the value of the
@@ -59,16 +61,15 @@ pub extern "C" fn pulxarrid_turn(
     ensures { left result (state_of state.new ∷ []) (mem.new ∷ report.new ∷ [])
         ≡ after_turn report.old (turn_call (state_of state.old) (sharing mem.old) budget) }
 {
-    let turned = xmp::turn(state, mem, budget);
-    let last = turned.last;
-    let n = numbers::of_last(last);
-    if n[0] != 0 {
-        return n[0];
+    match xmp::turn(state, mem, budget) {
+        Ok(turned) => {
+            let n = numbers::kind_of_last(turned.last);
+            let s = numbers::of_stray(turned.stray);
+            *report = [n[0], n[1], turned.steps, s[0], s[1]];
+            0
+        }
+        Err(refusal) => refusal.into(),
     }
-    let stray = turned.stray;
-    let s = numbers::of_stray(stray);
-    *report = [n[1], n[2], turned.steps, s[0], s[1]];
-    0
 }
 
 // At most `budget` steps: `report` takes the kind and the value of the ending, the steps, and the stray's cause and element.
@@ -82,16 +83,15 @@ pub extern "C" fn pulxarrid_run(
     ensures { left result (state_of state.new ∷ []) (mem.new ∷ report.new ∷ [])
         ≡ after_run report.old (run_call (state_of state.old) (sharing mem.old) budget) }
 {
-    let ran = xmp::run(state, mem, budget);
-    let ending = ran.ending;
-    let n = numbers::of_ending(ending);
-    if n[0] != 0 {
-        return n[0];
+    match xmp::run(state, mem, budget) {
+        Ok(ran) => {
+            let n = numbers::kind_of_ending(ran.ending);
+            let s = numbers::of_stray(ran.stray);
+            *report = [n[0], n[1], ran.steps, s[0], s[1]];
+            0
+        }
+        Err(refusal) => refusal.into(),
     }
-    let stray = ran.stray;
-    let s = numbers::of_stray(stray);
-    *report = [n[1], n[2], ran.steps, s[0], s[1]];
-    0
 }
 
 // A text assembled: `report` takes how many parcels were written, or the bad line, counted from 1.
@@ -101,15 +101,16 @@ pub extern "C" fn pulxarrid_assemble(text: &[u8], parcels: &mut [u16], report: &
         ≡ after_assemble text.now parcels.old report.old }
 {
     match assembly::assemble(text, parcels) {
-        Assembled::Parcels(n) => {
+        Ok(n) => {
             *report = [n as u64];
             0
         }
-        Assembled::BadLine(line) => {
-            *report = [line as u64];
-            10
+        Err(e) => {
+            if let ReadError::BadLine(line) = e {
+                *report = [line as u64];
+            }
+            e.number()
         }
-        Assembled::Overfull => 18,
     }
 }
 
@@ -120,10 +121,10 @@ pub extern "C" fn pulxarrid_list(parcels: &[u16], text: &mut [u8], report: &mut 
         ≡ after_list parcels.now text.old report.old }
 {
     match assembly::list(parcels, text) {
-        Listed::Bytes(n) => {
+        Ok(n) => {
             *report = [n as u64];
             0
         }
-        Listed::TooLong => 18,
+        Err(TooLong) => 18,
     }
 }

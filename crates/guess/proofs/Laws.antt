@@ -1,17 +1,23 @@
 -- Laws of a number read digit by digit, and of the table of plans. Assumes nothing.
-use mathlib.Core.Path.{◌≡◌, refl, ◌∙◌}
+use mathlib.Core.Path.{◌≡◌, refl, sym, ap, ◌∙◌}
 use mathlib.Core.Bool.{Bool, true, false}
-use mathlib.Core.List.{List, [], ◌∷◌}
+use mathlib.Core.List.{List, [], ◌∷◌, ◌++◌}
 use Prim.Native.Nat.{ℕ, zero, suc, ◌+◌, ◌-◌, ◌*◌, ◌/◌, ◌%◌, ◌^◌, ◌≤◌, ◌<◌}
-use native.Mathlib.Nat.{add-zero, le_of_suc-le-suc}
+use native.Mathlib.Nat.{le_of_suc-le-suc}
 use native.Mathlib.Omega.{arith}
-use lib.ListN.{length, get_or}
-use lib.Dec.{ltb}
+use lib.ListN.{length, get_or, get_or-append}
+use Rattle.std.specs.Prelude.{None}
+use Rattle.std.proofs.lemmas.List.{get_or-append-add}
+use lib.Dec.{eqb, ltb}
 use borrow.Author.Tests.{lt-ltb, le-ltb, le-leb, lt-leb, ltb-true}
 use Rattle.machine.specs.Codes.{code_of, code001, code002}
 use Rattle.spelling.specs.Spelling.{passing, spelling, words_of}
 use Rattle.spelling.specs.Rows.{row_words}
 use Rattle.spelling.specs.Candidate.{is_octal, number_from, place_of, number_place, number_code, plan_of, plan_table, guess_with}
+use Rattle.guess.specs.Numbers.{kind_of, numbers_in, numbers_of}
+use Rattle.guess.specs.declared.Kind.{Kind}
+use Rattle.guess.specs.declared.Kind.TheVariants.{Jk, Jkm, Rest, Indexed, Leading}
+use Rattle.guess.specs.declared.Plan.{Plan}
 use Rattle.spelling.proofs.Entries.{entry, every, every-at}
 
 -- in the text the default is nothing
@@ -49,11 +55,32 @@ abbrev most : ℕ → ℕ
 most zero = 65536
 most (suc n) = 16
 
--- the plan of a row as the table has it
-abbrev pub plan_in : List ℕ → ℕ → List ℕ
-plan_in l row =
-    get_or l (row * 8) 0 ∷ get_or l (row * 8 + 1) 0 ∷ get_or l (row * 8 + 2) 0 ∷ get_or l (row * 8 + 3) 0
-    ∷ get_or l (row * 8 + 4) 0 ∷ get_or l (row * 8 + 5) 0 ∷ get_or l (row * 8 + 6) 0 ∷ []
+-- the plan of a row, and eight numbers of it
+abbrev pub plan_at : List Plan → ℕ → Plan
+plan_at ps row = get_or ps row (0, 0, 0, 0, 0, 0, None)
+
+abbrev eight : List Plan → ℕ → List ℕ
+eight ps row = numbers_in (plan_at ps row) ++ 0 ∷ []
+
+eight-entry : (ps : List Plan) (row n : ℕ) → row < length ps → n < 8 → get_or (numbers_of ps) (row * 8 + n) 0 ≡ get_or (eight ps row) n 0
+unfolding numbers_of
+eight-entry [] row n h k = absurd (omega arith)
+eight-entry (p ∷ ps) zero n h k =
+    let e : 0 * 8 + n ≡ n = omega arith in
+    ap (λ (i : ℕ). get_or (numbers_of (p ∷ ps)) i 0) e ∙ get_or-append (numbers_in p ++ 0 ∷ []) (numbers_of ps) 0 n k
+eight-entry (p ∷ ps) (suc row) n h k =
+    let e : suc row * 8 + n ≡ 8 + (row * 8 + n) = omega arith in
+    ap (λ (i : ℕ). get_or (numbers_of (p ∷ ps)) i 0) e
+    ∙ get_or-append-add (numbers_in p ++ 0 ∷ []) (numbers_of ps) (row * 8 + n) 0
+    ∙ eight-entry ps row n (le_of_suc-le-suc h) k
+
+-- a number is of some kind
+pub some-kind : (k : Kind) → eqb (kind_of k) 0 ≡ false
+some-kind Jk = refl
+some-kind Jkm = refl
+some-kind Rest = refl
+some-kind Indexed = refl
+some-kind Leading = refl
 
 module _ {row : ℕ} (h : row < 108) where
   plan-small : (n : ℕ) → n < 8 → get_or (plan_of row) n 0 < most n
@@ -62,32 +89,37 @@ module _ {row : ℕ} (h : row < 108) where
       let small : ℕ → ℕ → Bool = λ r n. ltb (get_or (plan_of r) n 0) (most n) in
       ltb-true _ _ (every-at (small row) 8 (every-at (λ r. every (small r) 8) 108 refl row h) n k)
 
-  module _ {l : List ℕ} (is : l ≡ plan_table) where
-    plan-entry : (n : ℕ) → n < 8 → get_or l (row * 8 + n) 0 ≡ get_or (plan_of row) n 0
+  pub plan-below : (n : ℕ) → n < 7 → get_or (plan_of row) (suc n) 0 < 16
+  plan-below n k = plan-small (suc n) (omega arith)
+
+  module _ (ps : List Plan) (is : numbers_of ps ≡ plan_table) (long : length ps ≡ 108) where
+    plan-entry : (n : ℕ) → n < 8 → get_or (eight ps row) n 0 ≡ get_or (plan_of row) n 0
     unfolding plan_table
     plan-entry n k =
         let a : (0 + (row * 8 + n)) / 8 ≡ row = omega arith in
         let b : (0 + (row * 8 + n)) % 8 ≡ n = omega arith in
-        rw is (entry (λ n. get_or (plan_of (n / 8)) (n % 8) 0) 0 864 (row * 8 + n) (omega arith) ∙ rw (a, b))
+        let e = entry (λ n. get_or (plan_of (n / 8)) (n % 8) 0) 0 864 (row * 8 + n) (omega arith) ∙ rw (a, b) in
+        sym (eight-entry ps row n (omega arith) k) ∙ rw is e
 
-    base-entry : get_or l (row * 8) 0 ≡ get_or (plan_of row) 0 0
-    base-entry = rw (← add-zero (row * 8)) (plan-entry 0 (omega arith))
+    place-small : (n : ℕ) → n < 7 → get_or (eight ps row) (suc n) 0 < 16
+    place-small n k = rw (plan-entry (suc n) (omega arith)) (plan-below n k)
 
-    pub base-small : get_or l (row * 8) 0 < 65536
-    base-small = rw base-entry (plan-small 0 (omega arith))
-
-    pub place-small : (n : ℕ) → n < 7 → get_or l (row * 8 + suc n) 0 < 16
-    place-small n k = rw (plan-entry (suc n) (omega arith)) (plan-small (suc n) (omega arith))
-
-    pub plan-read : (b : ℕ → ℕ) → guess_with b (plan_of row) ≡ guess_with b (plan_in l row)
+    pub plan-read : (b : ℕ → ℕ) → guess_with b (plan_of row) ≡ guess_with b (numbers_in (plan_at ps row))
     unfolding guess_with
     plan-read b =
         rw (
-          base-entry,
-          plan-entry 1 (omega arith),
-          plan-entry 2 (omega arith),
-          plan-entry 3 (omega arith),
-          plan-entry 4 (omega arith),
-          plan-entry 5 (omega arith),
-          plan-entry 6 (omega arith),
+          ← plan-entry 0 (omega arith),
+          ← plan-entry 1 (omega arith),
+          ← plan-entry 2 (omega arith),
+          ← plan-entry 3 (omega arith),
+          ← plan-entry 4 (omega arith),
+          ← plan-entry 5 (omega arith),
+          ← plan-entry 6 (omega arith),
         )
+
+-- its places are small
+pub places_found : (ps : List Plan) (row : ℕ) → numbers_of ps ≡ plan_table → length ps ≡ 108 → row < 108
+    → ((plan_at ps row).1 < 16) × ((plan_at ps row).2 < 16) × ((plan_at ps row).3 < 16) × ((plan_at ps row).4 < 16) × ((plan_at ps row).5 < 16)
+places_found ps row is long h =
+    let place = place-small h ps is long in
+    (place 0 (omega arith), place 1 (omega arith), place 2 (omega arith), place 3 (omega arith), place 4 (omega arith))

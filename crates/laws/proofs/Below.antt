@@ -8,8 +8,8 @@ use lib.ListN.{length, get_or, set}
 use lib.Dec.{ltb}
 use lib.Pow.{pow_pos}
 use borrow.Author.Tests.{lt-ltb, ltb-true}
-use Rattle.machine.specs.declared.Place.{Place}
-use Rattle.machine.specs.declared.Place.TheVariants.{Inside, Outside}
+use Rattle.std.specs.Prelude.{Result, Ok, Err}
+use Rattle.machine.specs.declared.Cause.{Cause}
 use Rattle.machine.specs.Word.{pick}
 use Rattle.machine.specs.State.{fill, ring}
 use Rattle.machine.specs.Memory.{Field, place_of, load_at, store_at, load, store, stores}
@@ -67,9 +67,9 @@ module _ (n : ℕ) (f : ℕ → ℕ) (h : (e : ℕ) → f e < n) where
       let l = stores field at f k mem in
       go l (place_of field (length l) (at k)) (below-stores field at k mem e)
     where
-      go : (l : List ℕ) (o : Place) → below n l ≡ true → below n (store_at l o (f k)) ≡ true
-      go l (Inside w) e = below_set n l w (f k) e (h k)
-      go l (Outside cause) e = e
+      go : (l : List ℕ) (o : Result ℕ Cause) → below n l ≡ true → below n (store_at l o (f k)) ≡ true
+      go l (Ok w) e = below_set n l w (f k) e (h k)
+      go l (Err cause) e = e
 
   pub below-eight : below n (eight f) ≡ true
   unfolding below
@@ -96,6 +96,6 @@ pub load_lt : (f : Field) (mem : List ℕ) (w : ℕ) → below (2 ^ 64) mem ≡ 
 unfolding load
 load_lt f mem w e = go (place_of f (length mem) w)
   where
-    go : (o : Place) → load_at mem o < 2 ^ 64
-    go (Inside n) = below-get_or 64 mem n e
-    go (Outside cause) = pow_pos 64
+    go : (o : Result ℕ Cause) → load_at mem o < 2 ^ 64
+    go (Ok n) = below-get_or 64 mem n e
+    go (Err cause) = pow_pos 64

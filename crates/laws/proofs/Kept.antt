@@ -9,11 +9,10 @@ use lib.ListN.{get_or}
 use lib.Dec.{eqb}
 use lib.Pow.{pow_pos}
 use borrow.Author.Tests.{le-ltb}
+use Rattle.std.specs.Prelude.{Option, Some, Ok}
 use Rattle.machine.specs.declared.Stray.{Stray}
 use Rattle.machine.specs.declared.Work.{Work}
 use Rattle.machine.specs.declared.Work.TheVariants as work
-use Rattle.machine.specs.declared.Last.{Last}
-use Rattle.machine.specs.declared.Last.TheVariants as last
 use Rattle.machine.specs.Word.{pick}
 use Rattle.machine.specs.Parcel.{onward}
 use Rattle.machine.specs.State.{Frame, Registers, State, Shared, addr, user, si, Put, nothing, to_a, to_s, to_b}
@@ -23,7 +22,7 @@ use Rattle.machine.specs.Act.{Instr, Act, does, goes, reads_words, writes_words,
 use Rattle.machine.specs.Work.{Done, perform, status_of, work_of}
 use Rattle.machine.specs.Exchange.{package_of, save, package_word, loaded}
 use Rattle.machine.specs.Step.{Out, exchange, ranged, finish, finish_of, step_of, stops, goes_on, counted}
-use Rattle.machine.specs.Run.{blank_registers, blank_frame, start_of, Turned, turn_of, Ended, run_of, Half, half_after, PairEnded, pair_of}
+use Rattle.machine.specs.Run.{Last, blank_registers, blank_frame, start_of, Turned, turn_of, Ended, run_of, Half, half_after, PairEnded, pair_of}
 use Rattle.machine.specs.Refusal.{below, state_fits, memory_fits, first_due, step_refusal}
 use Rattle.access.specs.Executed.{FrameOk, ControlOk}
 use Rattle.access.proofs.Fits.{Fit, fit, fits}
@@ -174,7 +173,7 @@ abbrev HeldIn : State → Shared → Type 0
 HeldIn st sh = Held st × (below (2 ^ 64) sh.mem ≡ true)
 
 module _ (st : State) (r : Registers) (sh : Shared) (h : Held st) (c : ControlOk r) (k : ListsOk r) (e : below (2 ^ 64) sh.mem ≡ true) where
-  exchange-held : (p flags : ℕ) (s : Stray) → p < 2 ^ 24 → flags < 2 ^ 9
+  exchange-held : (p flags : ℕ) (s : Option Stray) → p < 2 ^ 24 → flags < 2 ^ 9
       → HeldIn (exchange st.frame r p flags s sh).state (exchange st.frame r p flags s sh).shared
   unfolding exchange save
   exchange-held p flags s l g =
@@ -196,12 +195,12 @@ module _ (st : State) (r : Registers) (sh : Shared) (h : Held st) (c : ControlOk
       }
 
   -- after an operand outside
-  ranged-held : (p : ℕ) (s : Stray) → p < 2 ^ 24 → HeldIn (ranged st.frame r p s sh).state (ranged st.frame r p s sh).shared
+  ranged-held : (p : ℕ) (s : Option Stray) → p < 2 ^ 24 → HeldIn (ranged st.frame r p s sh).state (ranged st.frame r p s sh).shared
   unfolding ranged
   ranged-held p s l =
       picked (λ (o : Out). HeldIn o.state o.shared) (user st.frame && eqb r.ior 1) (exchange-held p _ s l (omega arith)) (goes-held p l, e)
 
-  finish-held : (w : Work) (s : Stray) → Narrow w → HeldIn (finish st w s r sh).state (finish st w s r sh).shared
+  finish-held : (w : Work) (s : Option Stray) → Narrow w → HeldIn (finish st w s r sh).state (finish st w s r sh).shared
   unfolding finish
   finish-held work.PastOne s n = (goes-held _ (low _ 24), e)
   finish-held work.PastTwo s n = (goes-held _ (low _ 24), e)
@@ -227,11 +226,11 @@ step_fits st sh h e =
     finish-held st d.registers d.shared h (work-ok fr r p sh f.control) lists.0 lists.1 d.work d.stray (work-p fr r p sh refl)
 
 -- the processor's number stays, whatever the state
-ranged-processor : (fr : Frame) (r : Registers) (p : ℕ) (s : Stray) (sh : Shared) → (ranged fr r p s sh).state.frame.processor ≡ fr.processor
+ranged-processor : (fr : Frame) (r : Registers) (p : ℕ) (s : Option Stray) (sh : Shared) → (ranged fr r p s sh).state.frame.processor ≡ fr.processor
 unfolding ranged exchange loaded
 ranged-processor fr r p s sh = picked (λ (o : Out). o.state.frame.processor ≡ fr.processor) (user fr && eqb r.ior 1) refl refl
 
-finish-processor : (st : State) (w : Work) (s : Stray) (r : Registers) (sh : Shared) → (finish st w s r sh).state.frame.processor ≡ st.frame.processor
+finish-processor : (st : State) (w : Work) (s : Option Stray) (r : Registers) (sh : Shared) → (finish st w s r sh).state.frame.processor ≡ st.frame.processor
 unfolding finish exchange loaded
 finish-processor st work.PastOne s r sh = refl
 finish-processor st work.PastTwo s r sh = refl
@@ -254,16 +253,16 @@ step-processor st sh =
 
 -- what every step keeps, a turn keeps, and a run
 module _ (Q : State → Shared → Type 0) (step : (st : State) (sh : Shared) → Q st sh → Q (step_of st sh).state (step_of st sh).shared) where
-  pub turn-keeps : (budget : ℕ) (l : Last) (s : Stray) (n : ℕ) (st : State) (sh : Shared) → Q st sh → Q
+  pub turn-keeps : (budget : ℕ) (l : Last) (s : Option Stray) (n : ℕ) (st : State) (sh : Shared) → Q st sh → Q
       (turn_of budget l s n st sh).state (turn_of budget l s n st sh).shared
   unfolding turn_of
   turn-keeps zero l s n st sh q = q
   turn-keeps (suc budget) l s n st sh q =
       let o = step_of st sh in
       picked (λ (e : Turned). Q e.state e.shared) (goes_on o.answer)
-      (turn-keeps budget (last.Was o.answer) (or_else o.stray s) (n + counted o.answer) o.state o.shared (step st sh q)) (step st sh q)
+      (turn-keeps budget (Ok (Some o.answer)) (or_else o.stray s) (n + counted o.answer) o.state o.shared (step st sh q)) (step st sh q)
 
-  pub run-keeps : (budget : ℕ) (s : Stray) (n : ℕ) (st : State) (sh : Shared) → Q st sh → Q (run_of budget s n st sh).state (run_of budget s n st sh).shared
+  pub run-keeps : (budget : ℕ) (s : Option Stray) (n : ℕ) (st : State) (sh : Shared) → Q st sh → Q (run_of budget s n st sh).state (run_of budget s n st sh).shared
   unfolding run_of
   run-keeps zero s n st sh q = q
   run-keeps (suc budget) s n st sh q =
@@ -283,17 +282,17 @@ module _ (Q : State → State → Shared → Type 0)
       let o = step_of x.state sh in
       let k = first x.state y.state sh q in
       picked (λ (e : PairEnded). Q e.first.state e.second.state e.shared) (goes_on o.answer)
-      (pair_keeps bytes (last.Was o.answer) (n + counted o.answer) (half_after x o) y o.shared k) k
+      (pair_keeps bytes (Ok (Some o.answer)) (n + counted o.answer) (half_after x o) y o.shared k) k
   pair_keeps (suc b ∷ bytes) l n x y sh q =
       let o = step_of y.state sh in
       let k = second x.state y.state sh q in
       picked (λ (e : PairEnded). Q e.first.state e.second.state e.shared) (goes_on o.answer)
-      (pair_keeps bytes (last.Was o.answer) (n + counted o.answer) x (half_after y o) o.shared k) k
+      (pair_keeps bytes (Ok (Some o.answer)) (n + counted o.answer) x (half_after y o) o.shared k) k
 
 held-step : (st : State) (sh : Shared) → HeldIn st sh → HeldIn (step_of st sh).state (step_of st sh).shared
 held-step st sh k = step_fits st sh k.0 k.1
 
-module _ (budget : ℕ) (l : Last) (s : Stray) (n : ℕ) (st : State) (sh : Shared) where
+module _ (budget : ℕ) (l : Last) (s : Option Stray) (n : ℕ) (st : State) (sh : Shared) where
   pub turn-fits : Held st → below (2 ^ 64) sh.mem ≡ true
       → Held (turn_of budget l s n st sh).state × (below (2 ^ 64) (turn_of budget l s n st sh).shared.mem ≡ true)
   turn-fits h e = turn-keeps HeldIn held-step budget l s n st sh (h, e)
@@ -301,7 +300,7 @@ module _ (budget : ℕ) (l : Last) (s : Stray) (n : ℕ) (st : State) (sh : Shar
   pub turn-processor : (turn_of budget l s n st sh).state.frame.processor ≡ st.frame.processor
   turn-processor = turn-keeps (λ x i. x.frame.processor ≡ st.frame.processor) (λ x i e. step-processor x i ∙ e) budget l s n st sh refl
 
-module _ (budget : ℕ) (s : Stray) (n : ℕ) (st : State) (sh : Shared) where
+module _ (budget : ℕ) (s : Option Stray) (n : ℕ) (st : State) (sh : Shared) where
   pub run_fits : Held st → below (2 ^ 64) sh.mem ≡ true → Held (run_of budget s n st sh).state × (below (2 ^ 64) (run_of budget s n st sh).shared.mem ≡ true)
   run_fits h e = run-keeps HeldIn held-step budget s n st sh (h, e)
 

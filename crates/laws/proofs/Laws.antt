@@ -6,10 +6,9 @@ use mathlib.Core.List.{List}
 use native.Mathlib.Omega.{arith}
 use lib.ListN.{length, length-set}
 use lib.Dec.{eqb}
-use Rattle.machine.specs.declared.Place.{Place}
-use Rattle.machine.specs.declared.Place.TheVariants.{Inside, Outside}
+use Rattle.std.specs.Prelude.{Option, Some, None, Result, Ok, Err}
+use Rattle.machine.specs.declared.Cause.{Cause}
 use Rattle.machine.specs.declared.Stray.{Stray}
-use Rattle.machine.specs.declared.Stray.TheVariants.{Clean, First}
 use Rattle.machine.specs.declared.Work.{Work}
 use Rattle.machine.specs.declared.Work.TheVariants.{PastOne, PastTwo, To, NormalExit, ErrorExit, StrayedOne, StrayedTwo, ProgramRange, NotHeld, MonitorFetch}
 use Rattle.machine.specs.declared.Answer.{Answer}
@@ -29,17 +28,17 @@ use Rattle.laws.proofs.Acts.{PutOk, ActOk, length-bounds, act-ok}
 -- What holds of all that an instruction performs, of a parcel not held and of a parcel outside, holds of the work of every step.
 module _ (fr : Frame) (r : Registers) (p : ℕ) (sh : Shared) (Q : Done → Type 0)
     (acts : (n : Instr) (x m parcels : ℕ) → m < 2 ^ 16 → Q (perform fr r parcels sh (act r (status_of fr r) x m (onward p parcels) n)))
-    (not-held : Q (done NotHeld Clean r sh))
-    (lost : Q (done (no_parcel (user fr)) Clean r sh)) where
+    (not-held : Q (done NotHeld None r sh))
+    (lost : Q (done (no_parcel (user fr)) None r sh)) where
   -- a parcel that is fetched has 16 bits
   fetched-all : (q : ℕ) (f : ℕ → Present) → ((m : ℕ) → m < 2 ^ 16 → Q (done_with fr r p sh (f m)))
       → Q (done_with fr r p sh (with_parcel (fetch_of fr sh.mem q) f))
   unfolding fetch_of done_with
   fetched-all q f h = go (place_of (code_field fr) (length sh.mem) (word_of q))
     where
-      go : (o : Place) → Q (done_with fr r p sh (with_parcel (parcel_at sh.mem q o) f))
-      go (Inside n) = h _ (low _ 16)
-      go (Outside cause) = lost
+      go : (o : Result ℕ Cause) → Q (done_with fr r p sh (with_parcel (parcel_at sh.mem q o) f))
+      go (Ok n) = h _ (low _ 16)
+      go (Err cause) = lost
 
   decoded-all : (x : ℕ) (c : Code) → Q (done_with fr r p sh (decoded fr sh.mem p x c))
   unfolding decoded done_with
@@ -82,13 +81,13 @@ abbrev Acted : Work → Type 0
 Acted w = Narrow w × (Idle w → ⊥)
 
 -- so is going past it, of which an operand may be outside, and each act
-past-acted : (parcels : ℕ) (s : Stray) → Acted (past parcels s)
-past-acted parcels Clean = picked Acted (eqb parcels 1) (tt, λ z. z) (tt, λ z. z)
-past-acted parcels (First cause e) = picked Acted (eqb parcels 1) (tt, λ z. z) (tt, λ z. z)
+past-acted : (parcels : ℕ) (s : Option Stray) → Acted (past parcels s)
+past-acted parcels None = picked Acted (eqb parcels 1) (tt, λ z. z) (tt, λ z. z)
+past-acted parcels (Some stray) = picked Acted (eqb parcels 1) (tt, λ z. z) (tt, λ z. z)
 
 pub perform-acted : (fr : Frame) (r : Registers) (parcels : ℕ) (sh : Shared) (a : Act) → Acted (perform fr r parcels sh a).work
 unfolding perform
-perform-acted fr r parcels sh (does put) = past-acted parcels Clean
+perform-acted fr r parcels sh (does put) = past-acted parcels None
 perform-acted fr r parcels sh (goes q put) = (low q 24, λ z. z)
 perform-acted fr r parcels sh (reads_words n at put) = past-acted parcels (outside fr sh.mem (reads_words n at put))
 perform-acted fr r parcels sh (writes_words n at val) = past-acted parcels (outside fr sh.mem (writes_words n at val))
@@ -146,9 +145,9 @@ stores-length f at val (suc n) mem =
     let m = stores f at val n mem in
     go m (place_of f (length m) (at n)) ∙ stores-length f at val n mem
   where
-    go : (m : List ℕ) (o : Place) → length (store_at m o (val n)) ≡ length m
-    go m (Inside w) = length-set m w (val n)
-    go m (Outside cause) = refl
+    go : (m : List ℕ) (o : Result ℕ Cause) → length (store_at m o (val n)) ≡ length m
+    go m (Ok w) = length-set m w (val n)
+    go m (Err cause) = refl
 
 perform-length : (fr : Frame) (r : Registers) (parcels : ℕ) (sh : Shared) (a : Act) → length (perform fr r parcels sh a).shared.mem ≡ length sh.mem
 unfolding perform
@@ -176,11 +175,11 @@ module _ (fr : Frame) (r : Registers) (p : ℕ) (sh : Shared) where
       work-all fr r p sh (λ d. length d.shared.mem ≡ length sh.mem) (λ n x m parcels h. perform-length fr r parcels sh _) refl refl
 
   -- where nothing was done nothing has changed
-  pub work-idle : {w : Work} → (work_of fr r p sh).work ≡ w → Idle w → work_of fr r p sh ≡ done w Clean r sh
+  pub work-idle : {w : Work} → (work_of fr r p sh).work ≡ w → Idle w → work_of fr r p sh ≡ done w None r sh
   work-idle e i =
-      work-all fr r p sh (λ d. Idle d.work → d ≡ done d.work Clean r sh)
+      work-all fr r p sh (λ d. Idle d.work → d ≡ done d.work None r sh)
       (λ n x m parcels h z. absurd ((perform-acted fr r parcels sh _).1 z)) (λ z. refl) (λ z. refl) (rw e i)
-      ∙ ap (λ (w : Work). done w Clean r sh) e
+      ∙ ap (λ (w : Work). done w None r sh) e
 
 -- what a package loads has its widths
 pub loaded-ok : (mem : List ℕ) (x : ℕ) (r : Registers) (fr : Frame)
@@ -203,29 +202,29 @@ loaded-ok mem x r fr = (
 )
 
 -- an operand outside stops nothing
-pub ranged-goes : (fr : Frame) (r : Registers) (p : ℕ) (s : Stray) (sh : Shared) → stops (ranged fr r p s sh).answer ≡ true → ⊥
+pub ranged-goes : (fr : Frame) (r : Registers) (p : ℕ) (s : Option Stray) (sh : Shared) → stops (ranged fr r p s sh).answer ≡ true → ⊥
 unfolding ranged exchange
 ranged-goes fr r p s sh = picked (λ (o : Out). stops o.answer ≡ true → ⊥) (user fr && eqb r.ior 1) false≢true false≢true
 
 -- a step that stops leaves the state and what is shared, and has no stray
-finish-stop : (st : State) (w : Work) (s : Stray) (r : Registers) (sh sh' : Shared) → (Idle w → (s ≡ Clean) × (sh' ≡ sh))
-    → stops (finish st w s r sh').answer ≡ true → finish st w s r sh' ≡ out (finish st w s r sh').answer Clean st sh
+finish-stop : (st : State) (w : Work) (s : Option Stray) (r : Registers) (sh sh' : Shared) → (Idle w → (s ≡ None) × (sh' ≡ sh))
+    → stops (finish st w s r sh').answer ≡ true → finish st w s r sh' ≡ out (finish st w s r sh').answer None st sh
 unfolding finish exchange
-finish-stop st PastOne s r sh sh' e t = absurd (false≢true t)
-finish-stop st PastTwo s r sh sh' e t = absurd (false≢true t)
-finish-stop st (To q) s r sh sh' e t = absurd (false≢true t)
-finish-stop st NormalExit s r sh sh' e t = absurd (false≢true t)
-finish-stop st ErrorExit s r sh sh' e t = absurd (false≢true t)
+finish-stop st PastOne s r sh sh' e t = cc
+finish-stop st PastTwo s r sh sh' e t = cc
+finish-stop st (To q) s r sh sh' e t = cc
+finish-stop st NormalExit s r sh sh' e t = cc
+finish-stop st ErrorExit s r sh sh' e t = cc
 finish-stop st StrayedOne s r sh sh' e t = absurd (ranged-goes st.frame r (onward st.p.0 1) s sh' t)
 finish-stop st StrayedTwo s r sh sh' e t = absurd (ranged-goes st.frame r (onward st.p.0 2) s sh' t)
-finish-stop st ProgramRange s r sh sh' e t = absurd (false≢true t)
+finish-stop st ProgramRange s r sh sh' e t = cc
 finish-stop st NotHeld s r sh sh' e t = rw ((e tt).0, (e tt).1)
 finish-stop st MonitorFetch s r sh sh' e t = rw ((e tt).0, (e tt).1)
 
-pub step-stop : (st : State) (sh : Shared) {o : Answer} → (step_of st sh).answer ≡ o → stops o ≡ true → step_of st sh ≡ out o Clean st sh
+pub step-stop : (st : State) (sh : Shared) {o : Answer} → (step_of st sh).answer ≡ o → stops o ≡ true → step_of st sh ≡ out o None st sh
 unfolding step_of finish_of
 step-stop st sh e s =
     let d = work_of st.frame st.registers st.p.0 sh in
     finish-stop st d.work d.stray d.registers sh d.shared
     (λ i. let k = work-idle st.frame st.registers st.p.0 sh refl i in (ap (λ (x : Done). x.stray) k, ap (λ (x : Done). x.shared) k)) (rw e s)
-    ∙ ap (λ (o : Answer). out o Clean st sh) e
+    ∙ ap (λ (o : Answer). out o None st sh) e

@@ -1,16 +1,21 @@
 -- Laws of a parcel's row and of the table of operands. Assumes nothing.
 use mathlib.Core.Path.{◌≡◌, refl, sym, ap, ◌∙◌}
 use mathlib.Core.Bool.{Bool, true, false, ◌&&◌, not}
-use mathlib.Core.List.{List}
+use mathlib.Core.List.{List, [], ◌∷◌}
 use Prim.Native.Nat.{ℕ, zero, suc, ◌+◌, ◌*◌, ◌/◌, ◌%◌, ◌≤◌, ◌<◌}
 use native.Mathlib.Omega.{arith}
-use lib.ListN.{get_or}
+use lib.ListN.{get_or, length, get_or-append}
+use native.Mathlib.Nat.{le_of_suc-le-suc}
+use Rattle.std.proofs.lemmas.List.{get_or-append-add}
 use lib.Dec.{eqb, ltb, leb}
-use borrow.Author.Tests.{eqb-true, eqb-false, ne_eqb, lt-ltb, le-ltb, ltb-true, ltb-false, le-leb}
+use borrow.Author.Tests.{eq-eqb, eqb-true, eqb-false, ne_eqb, lt-ltb, le-ltb, ltb-true, ltb-false, le-leb}
 use Rattle.machine.specs.Word.{pick}
 use Rattle.machine.specs.Codes.{code_of, code001, code002}
-use Rattle.spelling.specs.Spelling.{passing, spelling, words_of}
-use Rattle.spelling.specs.Rows.{row_words, plain_rows, row_by, operands_in, code_at, operand_table}
+use Rattle.spelling.specs.Spelling.{passing, spelling, words_of, second}
+use Rattle.spelling.specs.Rows.{row_words, plain_rows, row_by, row_of, second_row, operands_in, code_at, operand_table}
+use Rattle.line.specs.Joined.{codes_in, codes_of}
+use Rattle.line.specs.declared.Codes.{Codes}
+use Rattle.spelling.proofs.Table.{second-of-row}
 use Rattle.spelling.proofs.Entries.{entry, every, every-at}
 
 -- n is none of the numbers below k that f tells, nested as a match's `.rest` is: the last is outermost
@@ -88,6 +93,10 @@ module _ (c i j k : ℕ) where
         ne_eqb _ _ n177,
       )
 
+-- a row tells whether there is a second parcel
+pub second-by : {x row : ℕ} → row ≡ row_of x → x < 65536 → second x ≡ second_row row
+second-by {x} {row} e h = second-of-row x h ∙ ap second_row (sym e)
+
 -- numbers that a computed test finds small: rows, and the codes of operands
 below : (f : ℕ → ℕ) (n most : ℕ) → every (λ k. ltb (f k) most) n ≡ true → (k : ℕ) → k < n → f k < most
 below f n most t k h = ltb-true (f k) most (every-at (λ k. ltb (f k) most) n t k h)
@@ -107,11 +116,53 @@ code-small : (n : ℕ) → n < 428 → code_at (n / 4) (n % 4) < 1024
 unfolding every code_of code001 code002 passing spelling words_of row_words operands_in code_at
 code-small = below (λ n. code_at (n / 4) (n % 4)) 428 1024 refl
 
--- a row's entries in the table of operands
-pub code-entry : (l : List ℕ) (row t : ℕ) → l ≡ operand_table → row < 107 → t < 4 → (get_or l (row * 4 + t) 0 ≡ code_at row t) × (get_or l (row * 4 + t) 0 < 1024)
-unfolding operand_table
-code-entry l row t e h k =
-    let a : (0 + (row * 4 + t)) / 4 ≡ row = omega arith in
-    let b : (0 + (row * 4 + t)) % 4 ≡ t = omega arith in
-    let f = entry (λ n. code_at (n / 4) (n % 4)) 0 428 (row * 4 + t) (omega arith) in
-    rw e (f ∙ rw (a, b), rw f (code-small (0 + (row * 4 + t)) (omega arith)))
+-- the codes of a row
+abbrev codes_at : List Codes → ℕ → Codes
+codes_at cs row = get_or cs row (0, 0, 0, 0)
+
+four-entry : (cs : List Codes) (row t : ℕ) → row < length cs → t < 4 → get_or (codes_of cs) (row * 4 + t) 0 ≡ get_or (codes_in (codes_at cs row)) t 0
+unfolding codes_of
+four-entry [] row t h k = absurd (omega arith)
+four-entry (c ∷ cs) zero t h k =
+    let e : 0 * 4 + t ≡ t = omega arith in
+    ap (λ (i : ℕ). get_or (codes_of (c ∷ cs)) i 0) e ∙ get_or-append (codes_in c) (codes_of cs) 0 t k
+four-entry (c ∷ cs) (suc row) t h k =
+    let e : suc row * 4 + t ≡ 4 + (row * 4 + t) = omega arith in
+    ap (λ (i : ℕ). get_or (codes_of (c ∷ cs)) i 0) e
+    ∙ get_or-append-add (codes_in c) (codes_of cs) (row * 4 + t) 0
+    ∙ four-entry cs row t (le_of_suc-le-suc h) k
+
+module _ (cs : List Codes) {row : ℕ} (is : codes_of cs ≡ operand_table) (long : length cs ≡ 107) (h : row < 107) where
+  code-entry : (t : ℕ) → t < 4 → get_or (codes_in (codes_at cs row)) t 0 ≡ code_at row t
+  unfolding operand_table
+  code-entry t k =
+      let a : (0 + (row * 4 + t)) / 4 ≡ row = omega arith in
+      let b : (0 + (row * 4 + t)) % 4 ≡ t = omega arith in
+      let e = entry (λ n. code_at (n / 4) (n % 4)) 0 428 (row * 4 + t) (omega arith) ∙ rw (a, b) in
+      sym (four-entry cs row t (omega arith) k) ∙ rw is e
+
+  code-below : (t : ℕ) → t < 4 → get_or (codes_in (codes_at cs row)) t 0 < 1024
+  code-below t k =
+      let a : (row * 4 + t) / 4 ≡ row = omega arith in
+      let b : (row * 4 + t) % 4 ≡ t = omega arith in
+      rw (code-entry t k) (rw (a, b) at (code-small (row * 4 + t) (omega arith)))
+
+-- all four, and that they are small
+pub codes_found : (cs : List Codes) (row : ℕ) → codes_of cs ≡ operand_table → length cs ≡ 107 → row < 107
+    → ((codes_at cs row).0 ≡ code_at row 0) × ((codes_at cs row).1 ≡ code_at row 1)
+    × ((codes_at cs row).2 ≡ code_at row 2) × ((codes_at cs row).3 ≡ code_at row 3)
+    × ((codes_at cs row).0 < 1024) × ((codes_at cs row).1 < 1024) × ((codes_at cs row).2 < 1024) × ((codes_at cs row).3 < 1024)
+codes_found cs row is long h =
+    let is_code = code-entry cs is long h in
+    let is_low = code-below cs is long h in (
+      is_code 0 (omega arith),
+      is_code 1 (omega arith),
+      is_code 2 (omega arith),
+      is_code 3 (omega arith),
+      is_low 0 (omega arith),
+      is_low 1 (omega arith),
+      is_low 2 (omega arith),
+      is_low 3 (omega arith),
+    )
+
+pub ruleset decode_rules = (eq-eqb, ne_eqb, codes_found)

@@ -1,3 +1,4 @@
 pub mod Laws
 pub mod Octal
 pub mod Written
+pub mod Tests

@@ -8,6 +8,9 @@ use native.Mathlib.Omega.{arith}
 use lib.ListN.{length, set, length-append}
 use lib.Dec.{ltb}
 use borrow.Author.Tests.{lt-ltb, ltb-false}
+use borrow.Rule.Slice.PartMut.{put_mid}
+use Rattle.std.proofs.lemmas.List.{drop-drop}
+use Rattle.std.proofs.lemmas.List.Edits.{sets-eq}
 use Rattle.machine.specs.Word.{pick}
 use Rattle.text.specs.Digits.{glyph_of, digits, places_of, width_of, shown}
 use Rattle.text.specs.Report.{Wrote}
@@ -132,20 +135,22 @@ module _ (letter number : ℕ) where
   unfolding operand_text
   wrote-register e w = rw e (then (wrote-byte refl) w)
 
+-- a text copied to its place
+pub wrote-copy : {d ys : List ℕ} {at k : ℕ} (xs : List ℕ) → at + length xs ≤ length d → k ≡ length xs → ys ≡ xs
+    → Wrote d at xs (put_mid at k d ys) (at + length xs)
+wrote-copy {d} {ys} {at} {k} xs h e f = record { bytes = rw (e, f, drop-drop (length xs) at d) (sym (rw append_assoc at (sets-eq xs d at h))); place = refl }
+
 -- a line of data
-pub wrote-data : {d m₁ m₂ m₃ : List ℕ} {at : ℕ} (x : ℕ)
-    → Wrote (set (set (set (set (set d at 100) (at + 1) 97) (at + 2) 116) (at + 3) 97) (at + 4) 61) (at + 5) (digits 8 2 (x / 4096)) m₁ (at + 5 + 2)
+pub wrote-data : {d m₀ m₁ m₂ m₃ : List ℕ} {at : ℕ} (x : ℕ) → Wrote d at (signs "data=") m₀ (at + 5)
+    → Wrote m₀ (at + 5) (digits 8 2 (x / 4096)) m₁ (at + 5 + 2)
     → Wrote m₁ (at + 7) (digits 8 2 (x / 64)) m₂ (at + 7 + 2) → Wrote m₂ (at + 9) (digits 8 2 x) m₃ (at + 9 + 2)
     → Wrote d at (data_line x) (set m₃ (at + 11) 10) (at + 12)
 unfolding data_line
-wrote-data {d} {m₁} {m₂} {m₃} {at} x a b c =
+wrote-data {d} {m₀} {m₁} {m₂} {m₃} {at} x name a b c =
     let e : x / 64 / 64 ≡ x / 4096 = omega arith in
     let six : digits 8 6 x ≡ (digits 8 2 (x / 4096) ++ digits 8 2 (x / 64)) ++ digits 8 2 x =
     digits-two 4 x ∙ rw (digits-two 2 (x / 64), e) in
-    let name : Wrote d at (signs "data=") (set (set (set (set (set d at 100) (at + 1) 97) (at + 2) 116) (at + 3) 97) (at + 4) 61) (at + 5) =
-    placed
-    (then_at (then_at (then_at (then (wrote-byte refl) (wrote-byte refl)) (wrote-byte refl) (omega arith)) (wrote-byte refl) (omega arith))
-    (wrote-byte refl) (omega arith))
-    (omega arith) in
     wrote_as (ap (λ (l : List ℕ). signs "data=" ++ l ++ (10 ∷ [])) six)
     (placed (then_at (then name (then_at (then_at a b (omega arith)) c (omega arith))) (wrote-byte refl) (omega arith)) (omega arith))
+
+pub ruleset long_rules = (long-more, long-many, place-long)

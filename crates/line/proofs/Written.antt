@@ -120,7 +120,6 @@ after_first l (o ∷ os) f = (f.1, f.2)
 pub record Spelling (line₀ : List ℕ) (start : ℕ) (l : List ℕ) (ins : Instruction) (line : List ℕ) (at from : ℕ) (os : List Operand) : Type 0 where
   pub left : Left (drop from l) os
   pub room : at + length (parts_of (drop from l) os) ≤ length line
-  pub table : length l ≡ 1284
   pub wrote : (k : List ℕ) (q : ℕ) → Wrote line at (parts_of (drop from l) os) k q → Wrote line₀ start (spelled_of l ins) k q
 
 -- its signs before the first
@@ -128,11 +127,11 @@ module _ {line : List ℕ} {start : ℕ} {l : List ℕ} {ins same : Instruction}
   abbrev form : List ℕ
   form = drop (row_in same * 12) l
 
-  pub signs-fit : Ends form × (start + length (signs_of form) ≤ length line) × (length l ≡ 1284)
+  pub signs-fit : Ends form × (start + length (signs_of form) ≤ length line)
   unfolding spelled_of
   signs-fit =
       let parts = parts_of (after_signs form) (operands_held same) in
-      (fills-ends form (operands_held same) (rw (← e) r.spells), room-first start (length line) (signs_of form) parts (rw (← e) r.room), r.table)
+      (fills-ends form (operands_held same) (rw (← e) r.spells), room-first start (length line) (signs_of form) parts (rw (← e) r.room))
 
   pub row_inside : row_in same * 12 < 1284
   row_inside = let inside = ends-inside l (row_in same * 12) signs-fit.0 in omega (arith, inside, r.table)
@@ -145,18 +144,17 @@ module _ {line : List ℕ} {start : ℕ} {l : List ℕ} {ins same : Instruction}
       record {
         left = rw next (after_first form (operands_held same) (rw (← e) r.spells));
         room = rw next (room-then (parts_of (after_signs form) (operands_held same)) signs.0 kept (rw (← e) r.room));
-        table = r.table;
         wrote = λ k q v. rw e (then signs.0 (rw (← next) v));
       }
 
 -- an operand and the signs after it
 module _ {line₀ : List ℕ} {start : ℕ} {l : List ℕ} {ins : Instruction} {line : List ℕ} {at from : ℕ} where
   pub part-fits : {o : Operand} {os : List Operand} → Spelling line₀ start l ins line at from (o ∷ os)
-      → Ends (drop from l) × Small o × (at + length (operand_text o ++ signs_of (drop from l)) ≤ length line) × (length l ≡ 1284)
+      → Ends (drop from l) × Small o × (at + length (operand_text o ++ signs_of (drop from l)) ≤ length line)
   unfolding parts_of
   part-fits {o} {os} s =
       let here = operand_text o ++ signs_of (drop from l) in
-      (fills-ends _ os s.left.1, s.left.0, room-first at (length line) here (parts_of (after_signs (drop from l)) os) s.room, s.table)
+      (fills-ends _ os s.left.1, s.left.0, room-first at (length line) here (parts_of (after_signs (drop from l)) os) s.room)
 
   pub part-next : {o : Operand} {os : List Operand} {m : List ℕ} {to : ℕ} (q : ℕ) → Spelling line₀ start l ins line at from (o ∷ os)
       → Wrote line at (operand_text o ++ signs_of (drop from l)) m to × (drop q l ≡ after_signs (drop from l)) → length m ≡ length line
@@ -167,7 +165,6 @@ module _ {line₀ : List ℕ} {start : ℕ} {l : List ℕ} {ins : Instruction} {
       record {
         left = rw next (after_first (drop from l) os s.left.1);
         room = rw next (room-then (parts_of (after_signs (drop from l)) os) p.0 kept s.room);
-        table = s.table;
         wrote = λ k q v. s.wrote k q (then p.0 (rw (← next) v));
       }
 
@@ -187,3 +184,5 @@ module _ (x m row : ℕ) (forms : List ℕ) (ins : Instruction) (h : x < 65536) 
         room = rw (← line-spelled n) room;
         table = rw f forms-length;
       }
+
+pub ruleset part_rules = (room-first, room-then)

@@ -5,151 +5,284 @@ ghost use Rattle.std.specs.Prelude.{◌≡◌, ◌++◌, ◌+◌, ◌%◌, ◌�
 ghost use Rattle.text.specs.Digits.{glyph_of, digits, shown};
 ghost use Rattle.text.specs.Report.{Wrote};
 ghost use Rattle.spelling.specs.Words.{fields_of, operand_by, operand_text};
+ghost use Rattle.spelling.specs.Spelling.{second};
 ghost use Rattle.spelling.specs.Listing.{data_line, line_of};
-ghost use Rattle.spelling.specs.Rows.{within, row0014, row001, row002, row023, plain_rows, row_by, row_of, second_row, code_at, form_table};
+ghost use Rattle.spelling.specs.Rows.{within, row0014, row001, row002, row023, plain_rows, row_by, row_of, code_at, form_table};
 ghost use Rattle.spelling.specs.Rows.{operand_table, instruction_by, signs_of, after_signs, Ends, spelled_of, Small, Ready};
 ghost use Rattle.spelling.specs.declared.Operand.TheVariants.{Register, Indexed};
+ghost use Rattle.line.specs.Joined.{joined, codes_of};
 
 use spelling::{Instruction, Operand};
 
-// Rows 1 to 106 are the instructions in the manual's order; row 0 has no spelling. The tables have a row to a line, which rt fmt
-// would put an entry to a line.
+// Rows 1 to 106 are the instructions in the manual's order; row 0 has no spelling.
 
 // The form of each row, twelve bytes: its signs, 0 where an operand stands, and a newline.
-const FORMS: [u8; 1284] = [
-    b'\n', b'\n', b'\n', b'\n', b'\n', b'\n', b'\n', b'\n', b'\n', b'\n', b'\n', b'\n', b'E', b'R',
-    b'R', b'\n', b'\n', b'\n', b'\n', b'\n', b'\n', b'\n', b'\n', b'\n', // ERR
-    b'P', b'A', b'S', b'S', b'\n', b'\n', b'\n', b'\n', b'\n', b'\n', b'\n', b'\n', // PASS
-    b'C', b'A', b',', 0, b' ', 0, b'\n', b'\n', b'\n', b'\n', b'\n', b'\n', // CA,Aj Ak
-    b'C', b'L', b',', 0, b' ', 0, b'\n', b'\n', b'\n', b'\n', b'\n', b'\n', // CL,Aj Ak
-    b'C', b'I', b',', 0, b'\n', b'\n', b'\n', b'\n', b'\n', b'\n', b'\n', b'\n', // CI,Aj
-    b'M', b'C', b',', 0, b'\n', b'\n', b'\n', b'\n', b'\n', b'\n', b'\n', b'\n', // MC,Aj
-    b'X', b'A', b' ', 0, b'\n', b'\n', b'\n', b'\n', b'\n', b'\n', b'\n', b'\n', // XA Aj
-    b'R', b'T', b' ', 0, b'\n', b'\n', b'\n', b'\n', b'\n', b'\n', b'\n', b'\n', // RT Sj
-    b'I', b'P', b' ', b'1', b'\n', b'\n', b'\n', b'\n', b'\n', b'\n', b'\n', b'\n', // IP 1
-    b'I', b'P', b' ', b'0', b'\n', b'\n', b'\n', b'\n', b'\n', b'\n', b'\n', b'\n', // IP 0
-    b'C', b'L', b'N', b' ', 0, b'\n', b'\n', b'\n', b'\n', b'\n', b'\n', b'\n', // CLN j
-    b'P', b'C', b'I', b' ', 0, b'\n', b'\n', b'\n', b'\n', b'\n', b'\n', b'\n', // PCI Sj
-    b'C', b'C', b'I', b'\n', b'\n', b'\n', b'\n', b'\n', b'\n', b'\n', b'\n', b'\n', // CCI
-    b'E', b'C', b'I', b'\n', b'\n', b'\n', b'\n', b'\n', b'\n', b'\n', b'\n', b'\n', // ECI
-    b'D', b'C', b'I', b'\n', b'\n', b'\n', b'\n', b'\n', b'\n', b'\n', b'\n', b'\n', // DCI
-    b'V', b'L', b' ', 0, b'\n', b'\n', b'\n', b'\n', b'\n', b'\n', b'\n', b'\n', // VL Ak
-    b'E', b'R', b'I', b'\n', b'\n', b'\n', b'\n', b'\n', b'\n', b'\n', b'\n', b'\n', // ERI
-    b'D', b'R', b'I', b'\n', b'\n', b'\n', b'\n', b'\n', b'\n', b'\n', b'\n', b'\n', // DRI
-    b'D', b'B', b'M', b'\n', b'\n', b'\n', b'\n', b'\n', b'\n', b'\n', b'\n', b'\n', // DBM
-    b'E', b'B', b'M', b'\n', b'\n', b'\n', b'\n', b'\n', b'\n', b'\n', b'\n', b'\n', // EBM
-    b'C', b'M', b'R', b'\n', b'\n', b'\n', b'\n', b'\n', b'\n', b'\n', b'\n', b'\n', // CMR
-    b'V', b'M', b' ', 0, b'\n', b'\n', b'\n', b'\n', b'\n', b'\n', b'\n', b'\n', // VM Sj
-    b'E', b'X', b'\n', b'\n', b'\n', b'\n', b'\n', b'\n', b'\n', b'\n', b'\n', b'\n', // EX
-    b'J', b' ', 0, b'\n', b'\n', b'\n', b'\n', b'\n', b'\n', b'\n', b'\n', b'\n', // J Bjk
-    b'J', b' ', 0, b'\n', b'\n', b'\n', b'\n', b'\n', b'\n', b'\n', b'\n', b'\n', // J exp
-    b'R', b' ', 0, b'\n', b'\n', b'\n', b'\n', b'\n', b'\n', b'\n', b'\n', b'\n', // R exp
-    b'J', b'A', b'Z', b' ', 0, b'\n', b'\n', b'\n', b'\n', b'\n', b'\n', b'\n', // JAZ exp
-    b'J', b'A', b'N', b' ', 0, b'\n', b'\n', b'\n', b'\n', b'\n', b'\n', b'\n', // JAN exp
-    b'J', b'A', b'P', b' ', 0, b'\n', b'\n', b'\n', b'\n', b'\n', b'\n', b'\n', // JAP exp
-    b'J', b'A', b'M', b' ', 0, b'\n', b'\n', b'\n', b'\n', b'\n', b'\n', b'\n', // JAM exp
-    b'J', b'S', b'Z', b' ', 0, b'\n', b'\n', b'\n', b'\n', b'\n', b'\n', b'\n', // JSZ exp
-    b'J', b'S', b'N', b' ', 0, b'\n', b'\n', b'\n', b'\n', b'\n', b'\n', b'\n', // JSN exp
-    b'J', b'S', b'P', b' ', 0, b'\n', b'\n', b'\n', b'\n', b'\n', b'\n', b'\n', // JSP exp
-    b'J', b'S', b'M', b' ', 0, b'\n', b'\n', b'\n', b'\n', b'\n', b'\n', b'\n', // JSM exp
-    b'0', b'1', 0, b' ', 0, b' ', 0, b'\n', b'\n', b'\n', b'\n', b'\n', // 01h Ah exp
-    b'0', b'2', b'0', b' ', 0, b' ', 0, b'\n', b'\n', b'\n', b'\n', b'\n', // 020 Ai exp
-    b'0', b'2', b'1', b' ', 0, b' ', 0, b'\n', b'\n', b'\n', b'\n', b'\n', // 021 Ai exp
-    b'0', b'2', b'2', b' ', 0, b' ', 0, b'\n', b'\n', b'\n', b'\n', b'\n', // 022 Ai exp
-    0, b' ', 0, b'\n', b'\n', b'\n', b'\n', b'\n', b'\n', b'\n', b'\n', b'\n', // Ai Sj
-    0, b' ', b'V', b'L', b'\n', b'\n', b'\n', b'\n', b'\n', b'\n', b'\n', b'\n', // Ai VL
-    0, b' ', 0, b'\n', b'\n', b'\n', b'\n', b'\n', b'\n', b'\n', b'\n', b'\n', // Ai Bjk
-    0, b' ', 0, b'\n', b'\n', b'\n', b'\n', b'\n', b'\n', b'\n', b'\n', b'\n', // Bjk Ai
-    0, b' ', b'P', 0, b'\n', b'\n', b'\n', b'\n', b'\n', b'\n', b'\n', b'\n', // Ai PSj
-    0, b' ', b'Q', 0, b'\n', b'\n', b'\n', b'\n', b'\n', b'\n', b'\n', b'\n', // Ai QSj
-    0, b' ', b'Z', 0, b'\n', b'\n', b'\n', b'\n', b'\n', b'\n', b'\n', b'\n', // Ai ZSj
-    0, b' ', 0, b'+', 0, b'\n', b'\n', b'\n', b'\n', b'\n', b'\n', b'\n', // Ai Aj+Ak
-    0, b' ', 0, b'-', 0, b'\n', b'\n', b'\n', b'\n', b'\n', b'\n', b'\n', // Ai Aj-Ak
-    0, b' ', 0, b'*', 0, b'\n', b'\n', b'\n', b'\n', b'\n', b'\n', b'\n', // Ai Aj*Ak
-    0, b',', 0, b' ', b',', b'A', b'0', b'\n', b'\n', b'\n', b'\n', b'\n', // Bjk,Ai ,A0
-    b',', b'A', b'0', b' ', 0, b',', 0, b'\n', b'\n', b'\n', b'\n', b'\n', // ,A0 Bjk,Ai
-    0, b',', 0, b' ', b',', b'A', b'0', b'\n', b'\n', b'\n', b'\n', b'\n', // Tjk,Ai ,A0
-    b',', b'A', b'0', b' ', 0, b',', 0, b'\n', b'\n', b'\n', b'\n', b'\n', // ,A0 Tjk,Ai
-    b'0', b'4', b'0', b' ', 0, b' ', 0, b'\n', b'\n', b'\n', b'\n', b'\n', // 040 Si exp
-    b'0', b'4', b'1', b' ', 0, b' ', 0, b'\n', b'\n', b'\n', b'\n', b'\n', // 041 Si exp
-    0, b' ', b'<', 0, b'\n', b'\n', b'\n', b'\n', b'\n', b'\n', b'\n', b'\n', // Si <exp
-    0, b' ', b'>', 0, b'\n', b'\n', b'\n', b'\n', b'\n', b'\n', b'\n', b'\n', // Si >exp
-    0, b' ', 0, b'&', 0, b'\n', b'\n', b'\n', b'\n', b'\n', b'\n', b'\n', // Si Sj&Sk
-    0, b' ', b'#', 0, b'&', 0, b'\n', b'\n', b'\n', b'\n', b'\n', b'\n', // Si #Sk&Sj
-    0, b' ', 0, b'\\', 0, b'\n', b'\n', b'\n', b'\n', b'\n', b'\n', b'\n', // Si Sj\Sk
-    0, b' ', b'#', 0, b'\\', 0, b'\n', b'\n', b'\n', b'\n', b'\n', b'\n', // Si #Sj\Sk
-    0, b' ', 0, b'!', 0, b'&', 0, b'\n', b'\n', b'\n', b'\n', b'\n', // Si Sj!Si&Sk
-    0, b' ', 0, b'!', 0, b'\n', b'\n', b'\n', b'\n', b'\n', b'\n', b'\n', // Si Sj!Sk
-    b'0', b'5', b'2', b' ', b'S', b'0', b' ', 0, b'<', 0, b'\n', b'\n', // 052 S0 Si<exp
-    b'0', b'5', b'3', b' ', b'S', b'0', b' ', 0, b'>', 0, b'\n', b'\n', // 053 S0 Si>exp
-    b'0', b'5', b'4', b' ', 0, b' ', 0, b'<', 0, b'\n', b'\n', b'\n', // 054 Si Si<exp
-    b'0', b'5', b'5', b' ', 0, b' ', 0, b'>', 0, b'\n', b'\n', b'\n', // 055 Si Si>exp
-    0, b' ', 0, b',', 0, b'<', 0, b'\n', b'\n', b'\n', b'\n', b'\n', // Si Si,Sj<Ak
-    0, b' ', 0, b',', 0, b'>', 0, b'\n', b'\n', b'\n', b'\n', b'\n', // Si Sj,Si>Ak
-    0, b' ', 0, b'+', 0, b'\n', b'\n', b'\n', b'\n', b'\n', b'\n', b'\n', // Si Sj+Sk
-    0, b' ', 0, b'-', 0, b'\n', b'\n', b'\n', b'\n', b'\n', b'\n', b'\n', // Si Sj-Sk
-    0, b' ', 0, b'\n', b'\n', b'\n', b'\n', b'\n', b'\n', b'\n', b'\n', b'\n', // Si Ak
-    0, b' ', b'+', 0, b'\n', b'\n', b'\n', b'\n', b'\n', b'\n', b'\n', b'\n', // Si +Ak
-    0, b' ', b'V', b'M', b'\n', b'\n', b'\n', b'\n', b'\n', b'\n', b'\n', b'\n', // Si VM
-    0, b' ', b'S', b'R', b'0', b'\n', b'\n', b'\n', b'\n', b'\n', b'\n', b'\n', // Si SR0
-    0, b' ', 0, b'\n', b'\n', b'\n', b'\n', b'\n', b'\n', b'\n', b'\n', b'\n', // Si Tjk
-    0, b' ', 0, b'\n', b'\n', b'\n', b'\n', b'\n', b'\n', b'\n', b'\n', b'\n', // Tjk Si
-    0, b' ', 0, b',', 0, b'\n', b'\n', b'\n', b'\n', b'\n', b'\n', b'\n', // Si Vj,Ak
-    0, b',', 0, b' ', 0, b'\n', b'\n', b'\n', b'\n', b'\n', b'\n', b'\n', // Vi,Ak Sj
-    0, b' ', 0, b'\n', b'\n', b'\n', b'\n', b'\n', b'\n', b'\n', b'\n', b'\n', // Ai exp,Ah
-    0, b' ', 0, b'\n', b'\n', b'\n', b'\n', b'\n', b'\n', b'\n', b'\n', b'\n', // exp,Ah Ai
-    0, b' ', 0, b'\n', b'\n', b'\n', b'\n', b'\n', b'\n', b'\n', b'\n', b'\n', // Si exp,Ah
-    0, b' ', 0, b'\n', b'\n', b'\n', b'\n', b'\n', b'\n', b'\n', b'\n', b'\n', // exp,Ah Si
-    0, b' ', 0, b'&', 0, b'\n', b'\n', b'\n', b'\n', b'\n', b'\n', b'\n', // Vi Sj&Vk
-    0, b' ', 0, b'&', 0, b'\n', b'\n', b'\n', b'\n', b'\n', b'\n', b'\n', // Vi Vj&Vk
-    0, b' ', 0, b'!', 0, b'\n', b'\n', b'\n', b'\n', b'\n', b'\n', b'\n', // Vi Sj!Vk
-    0, b' ', 0, b'!', 0, b'\n', b'\n', b'\n', b'\n', b'\n', b'\n', b'\n', // Vi Vj!Vk
-    0, b' ', 0, b'\\', 0, b'\n', b'\n', b'\n', b'\n', b'\n', b'\n', b'\n', // Vi Sj\Vk
-    0, b' ', 0, b'\\', 0, b'\n', b'\n', b'\n', b'\n', b'\n', b'\n', b'\n', // Vi Vj\Vk
-    0, b' ', 0, b'!', 0, b'&', b'V', b'M', b'\n', b'\n', b'\n', b'\n', // Vi Sj!Vk&VM
-    0, b' ', 0, b'!', 0, b'&', b'V', b'M', b'\n', b'\n', b'\n', b'\n', // Vi Vj!Vk&VM
-    0, b' ', 0, b'<', 0, b'\n', b'\n', b'\n', b'\n', b'\n', b'\n', b'\n', // Vi Vj<Ak
-    0, b' ', 0, b'>', 0, b'\n', b'\n', b'\n', b'\n', b'\n', b'\n', b'\n', // Vi Vj>Ak
-    0, b' ', 0, b',', 0, b'<', 0, b'\n', b'\n', b'\n', b'\n', b'\n', // Vi Vj,Vj<Ak
-    0, b' ', 0, b',', 0, b'>', 0, b'\n', b'\n', b'\n', b'\n', b'\n', // Vi Vj,Vj>Ak
-    0, b' ', 0, b'+', 0, b'\n', b'\n', b'\n', b'\n', b'\n', b'\n', b'\n', // Vi Sj+Vk
-    0, b' ', 0, b'+', 0, b'\n', b'\n', b'\n', b'\n', b'\n', b'\n', b'\n', // Vi Vj+Vk
-    0, b' ', 0, b'-', 0, b'\n', b'\n', b'\n', b'\n', b'\n', b'\n', b'\n', // Vi Sj-Vk
-    0, b' ', 0, b'-', 0, b'\n', b'\n', b'\n', b'\n', b'\n', b'\n', b'\n', // Vi Vj-Vk
-    0, b' ', b'P', 0, b'\n', b'\n', b'\n', b'\n', b'\n', b'\n', b'\n', b'\n', // Vi PVj
-    0, b' ', b'Q', 0, b'\n', b'\n', b'\n', b'\n', b'\n', b'\n', b'\n', b'\n', // Vi QVj
-    b'V', b'M', b' ', 0, b',', b'Z', b'\n', b'\n', b'\n', b'\n', b'\n', b'\n', // VM Vj,Z
-    b'V', b'M', b' ', 0, b',', b'N', b'\n', b'\n', b'\n', b'\n', b'\n', b'\n', // VM Vj,N
-    b'V', b'M', b' ', 0, b',', b'P', b'\n', b'\n', b'\n', b'\n', b'\n', b'\n', // VM Vj,P
-    b'V', b'M', b' ', 0, b',', b'M', b'\n', b'\n', b'\n', b'\n', b'\n', b'\n', // VM Vj,M
-    0, b' ', b',', b'A', b'0', b',', 0, b'\n', b'\n', b'\n', b'\n', b'\n', // Vi ,A0,Ak
-    b',', b'A', b'0', b',', 0, b' ', 0, b'\n', b'\n', b'\n', b'\n', b'\n', // ,A0,Ak Vj
+const FORMS: [[u8; 12]; 107] = [
+    *b"\n\n\n\n\n\n\n\n\n\n\n\n", // no spelling
+    *b"ERR\n\n\n\n\n\n\n\n\n", // ERR
+    *b"PASS\n\n\n\n\n\n\n\n", // PASS
+    *b"CA,\0 \0\n\n\n\n\n\n", // CA,Aj Ak
+    *b"CL,\0 \0\n\n\n\n\n\n", // CL,Aj Ak
+    *b"CI,\0\n\n\n\n\n\n\n\n", // CI,Aj
+    *b"MC,\0\n\n\n\n\n\n\n\n", // MC,Aj
+    *b"XA \0\n\n\n\n\n\n\n\n", // XA Aj
+    *b"RT \0\n\n\n\n\n\n\n\n", // RT Sj
+    *b"IP 1\n\n\n\n\n\n\n\n", // IP 1
+    *b"IP 0\n\n\n\n\n\n\n\n", // IP 0
+    *b"CLN \0\n\n\n\n\n\n\n", // CLN j
+    *b"PCI \0\n\n\n\n\n\n\n", // PCI Sj
+    *b"CCI\n\n\n\n\n\n\n\n\n", // CCI
+    *b"ECI\n\n\n\n\n\n\n\n\n", // ECI
+    *b"DCI\n\n\n\n\n\n\n\n\n", // DCI
+    *b"VL \0\n\n\n\n\n\n\n\n", // VL Ak
+    *b"ERI\n\n\n\n\n\n\n\n\n", // ERI
+    *b"DRI\n\n\n\n\n\n\n\n\n", // DRI
+    *b"DBM\n\n\n\n\n\n\n\n\n", // DBM
+    *b"EBM\n\n\n\n\n\n\n\n\n", // EBM
+    *b"CMR\n\n\n\n\n\n\n\n\n", // CMR
+    *b"VM \0\n\n\n\n\n\n\n\n", // VM Sj
+    *b"EX\n\n\n\n\n\n\n\n\n\n", // EX
+    *b"J \0\n\n\n\n\n\n\n\n\n", // J Bjk
+    *b"J \0\n\n\n\n\n\n\n\n\n", // J exp
+    *b"R \0\n\n\n\n\n\n\n\n\n", // R exp
+    *b"JAZ \0\n\n\n\n\n\n\n", // JAZ exp
+    *b"JAN \0\n\n\n\n\n\n\n", // JAN exp
+    *b"JAP \0\n\n\n\n\n\n\n", // JAP exp
+    *b"JAM \0\n\n\n\n\n\n\n", // JAM exp
+    *b"JSZ \0\n\n\n\n\n\n\n", // JSZ exp
+    *b"JSN \0\n\n\n\n\n\n\n", // JSN exp
+    *b"JSP \0\n\n\n\n\n\n\n", // JSP exp
+    *b"JSM \0\n\n\n\n\n\n\n", // JSM exp
+    *b"01\0 \0 \0\n\n\n\n\n", // 01h Ah exp
+    *b"020 \0 \0\n\n\n\n\n", // 020 Ai exp
+    *b"021 \0 \0\n\n\n\n\n", // 021 Ai exp
+    *b"022 \0 \0\n\n\n\n\n", // 022 Ai exp
+    *b"\0 \0\n\n\n\n\n\n\n\n\n", // Ai Sj
+    *b"\0 VL\n\n\n\n\n\n\n\n", // Ai VL
+    *b"\0 \0\n\n\n\n\n\n\n\n\n", // Ai Bjk
+    *b"\0 \0\n\n\n\n\n\n\n\n\n", // Bjk Ai
+    *b"\0 P\0\n\n\n\n\n\n\n\n", // Ai PSj
+    *b"\0 Q\0\n\n\n\n\n\n\n\n", // Ai QSj
+    *b"\0 Z\0\n\n\n\n\n\n\n\n", // Ai ZSj
+    *b"\0 \0+\0\n\n\n\n\n\n\n", // Ai Aj+Ak
+    *b"\0 \0-\0\n\n\n\n\n\n\n", // Ai Aj-Ak
+    *b"\0 \0*\0\n\n\n\n\n\n\n", // Ai Aj*Ak
+    *b"\0,\0 ,A0\n\n\n\n\n", // Bjk,Ai ,A0
+    *b",A0 \0,\0\n\n\n\n\n", // ,A0 Bjk,Ai
+    *b"\0,\0 ,A0\n\n\n\n\n", // Tjk,Ai ,A0
+    *b",A0 \0,\0\n\n\n\n\n", // ,A0 Tjk,Ai
+    *b"040 \0 \0\n\n\n\n\n", // 040 Si exp
+    *b"041 \0 \0\n\n\n\n\n", // 041 Si exp
+    *b"\0 <\0\n\n\n\n\n\n\n\n", // Si <exp
+    *b"\0 >\0\n\n\n\n\n\n\n\n", // Si >exp
+    *b"\0 \0&\0\n\n\n\n\n\n\n", // Si Sj&Sk
+    *b"\0 #\0&\0\n\n\n\n\n\n", // Si #Sk&Sj
+    *b"\0 \0\\\0\n\n\n\n\n\n\n", // Si Sj\Sk
+    *b"\0 #\0\\\0\n\n\n\n\n\n", // Si #Sj\Sk
+    *b"\0 \0!\0&\0\n\n\n\n\n", // Si Sj!Si&Sk
+    *b"\0 \0!\0\n\n\n\n\n\n\n", // Si Sj!Sk
+    *b"052 S0 \0<\0\n\n", // 052 S0 Si<exp
+    *b"053 S0 \0>\0\n\n", // 053 S0 Si>exp
+    *b"054 \0 \0<\0\n\n\n", // 054 Si Si<exp
+    *b"055 \0 \0>\0\n\n\n", // 055 Si Si>exp
+    *b"\0 \0,\0<\0\n\n\n\n\n", // Si Si,Sj<Ak
+    *b"\0 \0,\0>\0\n\n\n\n\n", // Si Sj,Si>Ak
+    *b"\0 \0+\0\n\n\n\n\n\n\n", // Si Sj+Sk
+    *b"\0 \0-\0\n\n\n\n\n\n\n", // Si Sj-Sk
+    *b"\0 \0\n\n\n\n\n\n\n\n\n", // Si Ak
+    *b"\0 +\0\n\n\n\n\n\n\n\n", // Si +Ak
+    *b"\0 VM\n\n\n\n\n\n\n\n", // Si VM
+    *b"\0 SR0\n\n\n\n\n\n\n", // Si SR0
+    *b"\0 \0\n\n\n\n\n\n\n\n\n", // Si Tjk
+    *b"\0 \0\n\n\n\n\n\n\n\n\n", // Tjk Si
+    *b"\0 \0,\0\n\n\n\n\n\n\n", // Si Vj,Ak
+    *b"\0,\0 \0\n\n\n\n\n\n\n", // Vi,Ak Sj
+    *b"\0 \0\n\n\n\n\n\n\n\n\n", // Ai exp,Ah
+    *b"\0 \0\n\n\n\n\n\n\n\n\n", // exp,Ah Ai
+    *b"\0 \0\n\n\n\n\n\n\n\n\n", // Si exp,Ah
+    *b"\0 \0\n\n\n\n\n\n\n\n\n", // exp,Ah Si
+    *b"\0 \0&\0\n\n\n\n\n\n\n", // Vi Sj&Vk
+    *b"\0 \0&\0\n\n\n\n\n\n\n", // Vi Vj&Vk
+    *b"\0 \0!\0\n\n\n\n\n\n\n", // Vi Sj!Vk
+    *b"\0 \0!\0\n\n\n\n\n\n\n", // Vi Vj!Vk
+    *b"\0 \0\\\0\n\n\n\n\n\n\n", // Vi Sj\Vk
+    *b"\0 \0\\\0\n\n\n\n\n\n\n", // Vi Vj\Vk
+    *b"\0 \0!\0&VM\n\n\n\n", // Vi Sj!Vk&VM
+    *b"\0 \0!\0&VM\n\n\n\n", // Vi Vj!Vk&VM
+    *b"\0 \0<\0\n\n\n\n\n\n\n", // Vi Vj<Ak
+    *b"\0 \0>\0\n\n\n\n\n\n\n", // Vi Vj>Ak
+    *b"\0 \0,\0<\0\n\n\n\n\n", // Vi Vj,Vj<Ak
+    *b"\0 \0,\0>\0\n\n\n\n\n", // Vi Vj,Vj>Ak
+    *b"\0 \0+\0\n\n\n\n\n\n\n", // Vi Sj+Vk
+    *b"\0 \0+\0\n\n\n\n\n\n\n", // Vi Vj+Vk
+    *b"\0 \0-\0\n\n\n\n\n\n\n", // Vi Sj-Vk
+    *b"\0 \0-\0\n\n\n\n\n\n\n", // Vi Vj-Vk
+    *b"\0 P\0\n\n\n\n\n\n\n\n", // Vi PVj
+    *b"\0 Q\0\n\n\n\n\n\n\n\n", // Vi QVj
+    *b"VM \0,Z\n\n\n\n\n\n", // VM Vj,Z
+    *b"VM \0,N\n\n\n\n\n\n", // VM Vj,N
+    *b"VM \0,P\n\n\n\n\n\n", // VM Vj,P
+    *b"VM \0,M\n\n\n\n\n\n", // VM Vj,M
+    *b"\0 ,A0,\0\n\n\n\n\n", // Vi ,A0,Ak
+    *b",A0,\0 \0\n\n\n\n\n", // ,A0,Ak Vj
 ];
 
-// The operands of each row, in the order of its line: a register's letter, or 0 for a constant, 1 for an indexed place, 2 for 64
-// less a constant, times 8; and the field that it is made of. 0 past the last.
-const OPERANDS: [u16; 428] = [
-    0, 0, 0, 0, 0, 0, 0, 0, 0, 0, 0, 0, 523, 524, 0, 0, 523, 524, 0, 0, 523, 0, 0, 0, 523, 0, 0, 0,
-    523, 0, 0, 0, 667, 0, 0, 0, 0, 0, 0, 0, 0, 0, 0, 0, 3, 0, 0, 0, 667, 0, 0, 0, 0, 0, 0, 0, 0, 0,
-    0, 0, 0, 0, 0, 0, 524, 0, 0, 0, 0, 0, 0, 0, 0, 0, 0, 0, 0, 0, 0, 0, 0, 0, 0, 0, 0, 0, 0, 0,
-    667, 0, 0, 0, 0, 0, 0, 0, 533, 0, 0, 0, 7, 0, 0, 0, 7, 0, 0, 0, 7, 0, 0, 0, 7, 0, 0, 0, 7, 0,
-    0, 0, 7, 0, 0, 0, 7, 0, 0, 0, 7, 0, 0, 0, 7, 0, 0, 0, 7, 0, 0, 0, 1, 521, 7, 0, 522, 6, 0, 0,
-    522, 6, 0, 0, 522, 5, 0, 0, 522, 667, 0, 0, 522, 0, 0, 0, 522, 533, 0, 0, 533, 522, 0, 0, 522,
-    667, 0, 0, 522, 667, 0, 0, 522, 667, 0, 0, 522, 523, 524, 0, 522, 523, 524, 0, 522, 523, 524,
-    0, 533, 522, 0, 0, 533, 522, 0, 0, 677, 522, 0, 0, 677, 522, 0, 0, 666, 6, 0, 0, 666, 6, 0, 0,
-    666, 21, 0, 0, 666, 5, 0, 0, 666, 667, 668, 0, 666, 668, 667, 0, 666, 667, 668, 0, 666, 667,
-    668, 0, 666, 667, 666, 668, 666, 667, 668, 0, 666, 5, 0, 0, 666, 5, 0, 0, 666, 666, 5, 0, 666,
-    666, 5, 0, 666, 666, 667, 524, 666, 667, 666, 524, 666, 667, 668, 0, 666, 667, 668, 0, 666,
-    524, 0, 0, 666, 524, 0, 0, 666, 0, 0, 0, 666, 0, 0, 0, 666, 677, 0, 0, 677, 666, 0, 0, 666,
-    691, 524, 0, 690, 524, 667, 0, 522, 14, 0, 0, 14, 522, 0, 0, 666, 14, 0, 0, 14, 666, 0, 0, 690,
-    667, 692, 0, 690, 691, 692, 0, 690, 667, 692, 0, 690, 691, 692, 0, 690, 667, 692, 0, 690, 691,
-    692, 0, 690, 667, 692, 0, 690, 691, 692, 0, 690, 691, 524, 0, 690, 691, 524, 0, 690, 691, 691,
-    524, 690, 691, 691, 524, 690, 667, 692, 0, 690, 691, 692, 0, 690, 667, 692, 0, 690, 691, 692,
-    0, 690, 691, 0, 0, 690, 691, 0, 0, 691, 0, 0, 0, 691, 0, 0, 0, 691, 0, 0, 0, 691, 0, 0, 0, 690,
-    524, 0, 0, 524, 691, 0, 0,
+// The codes of operands, as the definition's words have them: a register's letter, or 0 for a constant, 1 for an indexed place, 2
+// for 64 less a constant, times 8; and the field that it is made of.
+const A_H: u16 = 8 * b'A' as u16 + 1;
+
+const A_I: u16 = 8 * b'A' as u16 + 2;
+
+const A_J: u16 = 8 * b'A' as u16 + 3;
+
+const A_K: u16 = 8 * b'A' as u16 + 4;
+
+const S_I: u16 = 8 * b'S' as u16 + 2;
+
+const S_J: u16 = 8 * b'S' as u16 + 3;
+
+const S_K: u16 = 8 * b'S' as u16 + 4;
+
+const V_I: u16 = 8 * b'V' as u16 + 2;
+
+const V_J: u16 = 8 * b'V' as u16 + 3;
+
+const V_K: u16 = 8 * b'V' as u16 + 4;
+
+const B_JK: u16 = 8 * b'B' as u16 + 5;
+
+const T_JK: u16 = 8 * b'T' as u16 + 5;
+
+const H: u16 = 1;
+
+const J: u16 = 3;
+
+const JK: u16 = 5;
+
+const JKM: u16 = 6;
+
+const IJKM: u16 = 7;
+
+const JKM_A_H: u16 = 8 + 6;
+
+const LESS_JK: u16 = 16 + 5;
+
+// The operands of a row, in the order of its line, 0 past the last.
+#[derive(Clone, Copy)]
+struct Codes(u16, u16, u16, u16);
+
+const OPERANDS: [Codes; 107] = [
+    Codes(0, 0, 0, 0), // no spelling
+    Codes(0, 0, 0, 0), // ERR
+    Codes(0, 0, 0, 0), // PASS
+    Codes(A_J, A_K, 0, 0), // CA,Aj Ak
+    Codes(A_J, A_K, 0, 0), // CL,Aj Ak
+    Codes(A_J, 0, 0, 0), // CI,Aj
+    Codes(A_J, 0, 0, 0), // MC,Aj
+    Codes(A_J, 0, 0, 0), // XA Aj
+    Codes(S_J, 0, 0, 0), // RT Sj
+    Codes(0, 0, 0, 0), // IP 1
+    Codes(0, 0, 0, 0), // IP 0
+    Codes(J, 0, 0, 0), // CLN j
+    Codes(S_J, 0, 0, 0), // PCI Sj
+    Codes(0, 0, 0, 0), // CCI
+    Codes(0, 0, 0, 0), // ECI
+    Codes(0, 0, 0, 0), // DCI
+    Codes(A_K, 0, 0, 0), // VL Ak
+    Codes(0, 0, 0, 0), // ERI
+    Codes(0, 0, 0, 0), // DRI
+    Codes(0, 0, 0, 0), // DBM
+    Codes(0, 0, 0, 0), // EBM
+    Codes(0, 0, 0, 0), // CMR
+    Codes(S_J, 0, 0, 0), // VM Sj
+    Codes(0, 0, 0, 0), // EX
+    Codes(B_JK, 0, 0, 0), // J Bjk
+    Codes(IJKM, 0, 0, 0), // J exp
+    Codes(IJKM, 0, 0, 0), // R exp
+    Codes(IJKM, 0, 0, 0), // JAZ exp
+    Codes(IJKM, 0, 0, 0), // JAN exp
+    Codes(IJKM, 0, 0, 0), // JAP exp
+    Codes(IJKM, 0, 0, 0), // JAM exp
+    Codes(IJKM, 0, 0, 0), // JSZ exp
+    Codes(IJKM, 0, 0, 0), // JSN exp
+    Codes(IJKM, 0, 0, 0), // JSP exp
+    Codes(IJKM, 0, 0, 0), // JSM exp
+    Codes(H, A_H, IJKM, 0), // 01h Ah exp
+    Codes(A_I, JKM, 0, 0), // 020 Ai exp
+    Codes(A_I, JKM, 0, 0), // 021 Ai exp
+    Codes(A_I, JK, 0, 0), // 022 Ai exp
+    Codes(A_I, S_J, 0, 0), // Ai Sj
+    Codes(A_I, 0, 0, 0), // Ai VL
+    Codes(A_I, B_JK, 0, 0), // Ai Bjk
+    Codes(B_JK, A_I, 0, 0), // Bjk Ai
+    Codes(A_I, S_J, 0, 0), // Ai PSj
+    Codes(A_I, S_J, 0, 0), // Ai QSj
+    Codes(A_I, S_J, 0, 0), // Ai ZSj
+    Codes(A_I, A_J, A_K, 0), // Ai Aj+Ak
+    Codes(A_I, A_J, A_K, 0), // Ai Aj-Ak
+    Codes(A_I, A_J, A_K, 0), // Ai Aj*Ak
+    Codes(B_JK, A_I, 0, 0), // Bjk,Ai ,A0
+    Codes(B_JK, A_I, 0, 0), // ,A0 Bjk,Ai
+    Codes(T_JK, A_I, 0, 0), // Tjk,Ai ,A0
+    Codes(T_JK, A_I, 0, 0), // ,A0 Tjk,Ai
+    Codes(S_I, JKM, 0, 0), // 040 Si exp
+    Codes(S_I, JKM, 0, 0), // 041 Si exp
+    Codes(S_I, LESS_JK, 0, 0), // Si <exp
+    Codes(S_I, JK, 0, 0), // Si >exp
+    Codes(S_I, S_J, S_K, 0), // Si Sj&Sk
+    Codes(S_I, S_K, S_J, 0), // Si #Sk&Sj
+    Codes(S_I, S_J, S_K, 0), // Si Sj\Sk
+    Codes(S_I, S_J, S_K, 0), // Si #Sj\Sk
+    Codes(S_I, S_J, S_I, S_K), // Si Sj!Si&Sk
+    Codes(S_I, S_J, S_K, 0), // Si Sj!Sk
+    Codes(S_I, JK, 0, 0), // 052 S0 Si<exp
+    Codes(S_I, JK, 0, 0), // 053 S0 Si>exp
+    Codes(S_I, S_I, JK, 0), // 054 Si Si<exp
+    Codes(S_I, S_I, JK, 0), // 055 Si Si>exp
+    Codes(S_I, S_I, S_J, A_K), // Si Si,Sj<Ak
+    Codes(S_I, S_J, S_I, A_K), // Si Sj,Si>Ak
+    Codes(S_I, S_J, S_K, 0), // Si Sj+Sk
+    Codes(S_I, S_J, S_K, 0), // Si Sj-Sk
+    Codes(S_I, A_K, 0, 0), // Si Ak
+    Codes(S_I, A_K, 0, 0), // Si +Ak
+    Codes(S_I, 0, 0, 0), // Si VM
+    Codes(S_I, 0, 0, 0), // Si SR0
+    Codes(S_I, T_JK, 0, 0), // Si Tjk
+    Codes(T_JK, S_I, 0, 0), // Tjk Si
+    Codes(S_I, V_J, A_K, 0), // Si Vj,Ak
+    Codes(V_I, A_K, S_J, 0), // Vi,Ak Sj
+    Codes(A_I, JKM_A_H, 0, 0), // Ai exp,Ah
+    Codes(JKM_A_H, A_I, 0, 0), // exp,Ah Ai
+    Codes(S_I, JKM_A_H, 0, 0), // Si exp,Ah
+    Codes(JKM_A_H, S_I, 0, 0), // exp,Ah Si
+    Codes(V_I, S_J, V_K, 0), // Vi Sj&Vk
+    Codes(V_I, V_J, V_K, 0), // Vi Vj&Vk
+    Codes(V_I, S_J, V_K, 0), // Vi Sj!Vk
+    Codes(V_I, V_J, V_K, 0), // Vi Vj!Vk
+    Codes(V_I, S_J, V_K, 0), // Vi Sj\Vk
+    Codes(V_I, V_J, V_K, 0), // Vi Vj\Vk
+    Codes(V_I, S_J, V_K, 0), // Vi Sj!Vk&VM
+    Codes(V_I, V_J, V_K, 0), // Vi Vj!Vk&VM
+    Codes(V_I, V_J, A_K, 0), // Vi Vj<Ak
+    Codes(V_I, V_J, A_K, 0), // Vi Vj>Ak
+    Codes(V_I, V_J, V_J, A_K), // Vi Vj,Vj<Ak
+    Codes(V_I, V_J, V_J, A_K), // Vi Vj,Vj>Ak
+    Codes(V_I, S_J, V_K, 0), // Vi Sj+Vk
+    Codes(V_I, V_J, V_K, 0), // Vi Vj+Vk
+    Codes(V_I, S_J, V_K, 0), // Vi Sj-Vk
+    Codes(V_I, V_J, V_K, 0), // Vi Vj-Vk
+    Codes(V_I, V_J, 0, 0), // Vi PVj
+    Codes(V_I, V_J, 0, 0), // Vi QVj
+    Codes(V_J, 0, 0, 0), // VM Vj,Z
+    Codes(V_J, 0, 0, 0), // VM Vj,N
+    Codes(V_J, 0, 0, 0), // VM Vj,P
+    Codes(V_J, 0, 0, 0), // VM Vj,M
+    Codes(V_I, A_K, 0, 0), // Vi ,A0,Ak
+    Codes(A_K, V_J, 0, 0), // ,A0,Ak Vj
 ];
 
-// The row of a code whose other digits are all free. A constant table would be made anew at every look.
+// The row of a code whose other digits are all free. A constant table would be made anew at every look; runs of codes as ranges, each a
+// sum, cost a line listed or assembled 6 host instructions more.
 fn plain_row(c: u64) -> u64
     requires { (16 ≤ c) × (c < 128) }
     ensures { result ≡ get_or plain_rows c 0 }
@@ -241,7 +374,9 @@ fn plain_row(c: u64) -> u64
     }
 }
 
-// Rows that go by a digit below n.
+// Rows that go by a digit below n. Here and below 0 is no row, as in the definition: the tables have a row 0, and an Option in each of
+// these would say no more.
+#[tactic(auto, using(crate::proofs::Tests::tests), unfolding(spelling::specs::Rows::within))]
 fn within(n: u64, first: u64, digit: u64) -> u64
     requires { (n < 100) × (first < 1000) }
     ensures { result ≡ within n first digit }
@@ -250,6 +385,7 @@ fn within(n: u64, first: u64, digit: u64) -> u64
 }
 
 // 0014jk.
+#[tactic(auto, using(crate::proofs::Tests::tests), unfolding(spelling::specs::Rows::row0014))]
 fn row_0014(j: u64, k: u64) -> u64
     ensures { result ≡ row0014 j k }
 {
@@ -276,6 +412,7 @@ fn row_0014(j: u64, k: u64) -> u64
 }
 
 // 001ijk.
+#[tactic(auto, using(crate::proofs::Tests::tests), unfolding(spelling::specs::Rows::row001))]
 fn row_001(i: u64, j: u64, k: u64) -> u64
     requires { (j < 8) × (k < 8) }
     ensures { result ≡ row001 i j k }
@@ -291,6 +428,7 @@ fn row_001(i: u64, j: u64, k: u64) -> u64
 }
 
 // 002ijk.
+#[tactic(auto, using(crate::proofs::Tests::tests), unfolding(spelling::specs::Rows::row002))]
 fn row_002(i: u64, j: u64, k: u64) -> u64
     requires { i < 8 }
     ensures { result ≡ row002 i j k }
@@ -308,6 +446,7 @@ fn row_002(i: u64, j: u64, k: u64) -> u64
 }
 
 // 000 to 017, where the digit i tells branches from constants.
+#[tactic(auto, using(crate::proofs::Tests::tests), unfolding(spelling::specs::Rows::row_by))]
 fn low_row(c: u64, i: u64, j: u64, k: u64) -> u64
     requires { (c < 16) × (i < 8) × (j < 8) × (k < 8) }
     ensures { result ≡ row_by c i j k }
@@ -326,6 +465,7 @@ fn low_row(c: u64, i: u64, j: u64, k: u64) -> u64
 }
 
 // 020 to 177. Most codes have one row whatever the other digits are.
+#[tactic(auto, using(crate::proofs::Tests::tests), unfolding(spelling::specs::Rows::row_by))]
 fn high_row(c: u64, i: u64, j: u64, k: u64) -> u64
     requires { (16 ≤ c) × (c < 128) × (i < 8) × (j < 8) × (k < 8) }
     ensures { result ≡ row_by c i j k }
@@ -345,6 +485,7 @@ fn high_row(c: u64, i: u64, j: u64, k: u64) -> u64
 }
 
 // 023ij0 and 023i01.
+#[tactic(auto, using(crate::proofs::Tests::tests), unfolding(spelling::specs::Rows::row023))]
 fn row_023(j: u64, k: u64) -> u64
     requires { (j < 8) × (k < 8) }
     ensures { result ≡ row023 j k }
@@ -356,14 +497,14 @@ fn row_023(j: u64, k: u64) -> u64
 }
 
 // The row of a first parcel.
-pub fn row_of(x: u64) -> u64
-    requires { x < 65536 }
+#[tactic(auto, using(spelling::proofs::Table::row_small), unfolding(spelling::specs::Rows::row_of))]
+fn row_of(x: u16) -> u64
     ensures { (result ≡ row_of x) × (result < 107) }
 {
-    let c = x / 512;
-    let i = x / 64 % 8;
-    let j = x / 8 % 8;
-    let k = x % 8;
+    let c = x as u64 / 512;
+    let i = x as u64 / 64 % 8;
+    let j = x as u64 / 8 % 8;
+    let k = x as u64 % 8;
     if c < 16 {
         low_row(c, i, j, k)
     } else {
@@ -371,24 +512,47 @@ pub fn row_of(x: u64) -> u64
     }
 }
 
-// Whether the instructions of a row have a second parcel.
-pub fn has_second(row: u64) -> bool
-    ensures { result ≡ second_row row }
-{
-    if row < 38 {
-        return 25 <= row;
+// A first parcel, and its row, 0 if it has no spelling: looked up once, since the row tells whether a second parcel is to come, and
+// then the line.
+#[derive(Clone, Copy)]
+pub struct First {
+    pub parcel: u16,
+    row: usize,
+    ghost is_row: { (row ≡ row_of parcel) × (row < 107) },
+}
+
+impl First {
+    pub fn new(parcel: u16) -> First
+        ensures { result.parcel ≡ parcel }
+    {
+        First {
+            parcel,
+            row: row_of(parcel) as usize,
+        }
     }
-    if row < 55 {
-        return 53 <= row;
+
+    // Whether the instruction has a second parcel, by the rows that do. As `matches!` of the three ranges it costs a line listed or
+    // assembled 5 host instructions more.
+    #[tactic(auto, using(crate::proofs::Tests::by_row), unfolding(spelling::specs::Rows::second_row))]
+    pub fn has_second(self) -> bool
+        ensures { result ≡ second self.parcel }
+    {
+        if self.row < 38 {
+            return 25 <= self.row;
+        }
+        if self.row < 55 {
+            return 53 <= self.row;
+        }
+        79 <= self.row && self.row < 83
     }
-    79 <= row && row < 83
 }
 
 // The fields of an instruction's parcels, made once for all its operands.
-fn fields(x: u64, m: u64) -> [u64; 8]
-    requires { m < 65536 }
-    ensures { result ≡ fields_of x m }
+fn fields(first: u16, second: u16) -> [u64; 8]
+    ensures { result ≡ fields_of first second }
 {
+    let x = first as u64;
+    let m = second as u64;
     [
         0,
         x / 512 % 8,
@@ -402,7 +566,8 @@ fn fields(x: u64, m: u64) -> [u64; 8]
 }
 
 // The operand of a code. Registers, the most common, come first.
-fn operand(code: u64, fields: &[u64; 8]) -> Operand
+#[tactic(auto, using(crate::proofs::Tests::tests))]
+fn operand(code: u16, fields: &[u64; 8]) -> Operand
     requires { code < 1024 }
     ensures { result ≡ operand_by code fields.now }
 {
@@ -428,55 +593,132 @@ fn operand(code: u64, fields: &[u64; 8]) -> Operand
     Operand::Constant(if v < 64 { 64 - v } else { 0 })
 }
 
-// The tables. A constant table is made anew wherever it is read, so these are made once for a text and lent to what reads them.
-pub fn forms() -> [u8; 1284]
-    ensures { result ≡ form_table }
-{
-    FORMS
+// The tables. A constant table is made anew wherever it is read, so they are made once for a text and lent to what reads them.
+#[derive(Drop)]
+pub struct Tables {
+    forms: [[u8; 12]; 107],
+    operands: [Codes; 107],
+    ghost are_forms: { joined forms ≡ form_table },
+    ghost are_operands: { codes_of operands ≡ operand_table },
 }
 
-pub fn operands() -> [u16; 428]
-    ensures { result ≡ operand_table }
-{
-    OPERANDS
+impl Tables {
+    pub fn new() -> Tables {
+        Tables {
+            forms: FORMS,
+            operands: OPERANDS,
+        }
+    }
+
+    // The instruction of a row, from the fields of its parcels.
+    #[tactic(auto, using(crate::proofs::Laws::decode_rules), unfolding(spelling::specs::Rows::with_codes, spelling::specs::Rows::instruction_by))]
+    fn decode(&self, row: usize, fields: &[u64; 8]) -> Instruction
+        requires { row < 107 }
+        ensures { result ≡ instruction_by row fields.now }
+    {
+        let Codes(a, b, c, d) = self.operands[row];
+        if a == 0 {
+            return Instruction::Bare(row);
+        }
+        let first = operand(a, fields);
+        if b == 0 {
+            return Instruction::OfOne(row, first);
+        }
+        let second = operand(b, fields);
+        if c == 0 {
+            return Instruction::OfTwo(row, first, second);
+        }
+        let third = operand(c, fields);
+        if d == 0 {
+            return Instruction::OfThree(row, first, second, third);
+        }
+        Instruction::OfFour(row, first, second, third, operand(d, fields))
+    }
+
+    // The signs of a form from a place on, up to an operand or with the newline.
+    fn put_signs(&self, line: &mut [u8], at: usize, from: usize) -> Cut
+        requires { Ends (drop from (joined self.now.forms)) × (at + length (signs_of (drop from (joined self.now.forms))) ≤ length line.old) }
+        ensures wrote { Wrote line.old at (signs_of (drop from (joined self.now.forms))) line.new result.at }
+        ensures rest { drop result.from (joined self.now.forms) ≡ after_signs (drop from (joined self.now.forms)) }
+    {
+        // Each form ends with its newline, so the table's end is never met; a `for` over the rest of it would have to answer there too.
+        let forms = self.forms.as_flattened();
+        let mut to = at;
+        let mut p = from;
+        loop {
+            let b = forms[p];
+            p += 1;
+            if b == 0 {
+                return Cut { at: to, from: p };
+            }
+            line[to] = b;
+            to += 1;
+            if b == b'\n' {
+                return Cut { at: to, from: p };
+            }
+        }
+    }
+
+    // An operand, and the signs after it.
+    #[tactic(auto, using(crate::proofs::Written::part_rules))]
+    fn put_part(&self, line: &mut [u8], cut: Cut, op: Operand) -> Cut
+        requires { Ends (drop cut.from (joined self.now.forms)) × Small op ×
+            (cut.at + length (operand_text op ++ signs_of (drop cut.from (joined self.now.forms))) ≤ length line.old) }
+        ensures wrote { Wrote line.old cut.at (operand_text op ++ signs_of (drop cut.from (joined self.now.forms))) line.new result.at }
+        ensures rest { drop result.from (joined self.now.forms) ≡ after_signs (drop cut.from (joined self.now.forms)) }
+    {
+        let end = put_operand(line, cut.at, op);
+        self.put_signs(line, end, cut.from)
+    }
+
+    // An instruction's line.
+    fn put_instruction(&self, line: &mut [u8], start: usize, ins: Instruction) -> usize
+        requires { Ready line.old start (joined self.now.forms) ins }
+        ensures { Wrote line.old start (spelled_of (joined self.now.forms) ins) line.new result }
+    {
+        match ins {
+            Instruction::Bare(row) => self.put_signs(line, start, row * 12).at,
+            Instruction::OfOne(row, a) => {
+                let head = self.put_signs(line, start, row * 12);
+                self.put_part(line, head, a).at
+            }
+            Instruction::OfTwo(row, a, b) => {
+                let head = self.put_signs(line, start, row * 12);
+                let after_a = self.put_part(line, head, a);
+                self.put_part(line, after_a, b).at
+            }
+            Instruction::OfThree(row, a, b, c) => {
+                let head = self.put_signs(line, start, row * 12);
+                let after_a = self.put_part(line, head, a);
+                let after_b = self.put_part(line, after_a, b);
+                self.put_part(line, after_b, c).at
+            }
+            Instruction::OfFour(row, a, b, c, d) => {
+                let head = self.put_signs(line, start, row * 12);
+                let after_a = self.put_part(line, head, a);
+                let after_b = self.put_part(line, after_a, b);
+                let after_c = self.put_part(line, after_b, c);
+                self.put_part(line, after_c, d).at
+            }
+        }
+    }
+
+    // The line of an instruction whose second parcel is m, or 0: at most 16 bytes.
+    pub fn put_line(&self, line: &mut [u8], at: usize, first: First, m: u16) -> usize
+        requires { at + length (line_of first.parcel m) ≤ length line.old }
+        ensures { Wrote line.old at (line_of first.parcel m) line.new result × (at + 2 ≤ result) × (result ≤ at + 16) }
+    {
+        if first.row == 0 {
+            return put_data(line, at, first.parcel);
+        }
+        let fs = fields(first.parcel, m);
+        let ins = self.decode(first.row, &fs);
+        self.put_instruction(line, at, ins)
+    }
 }
 
-// The code of a row's operand.
-fn code_at(operands: &[u16; 428], row: usize, t: usize) -> u64
-    requires { (row < 107) × (t < 4) × (operands.now ≡ operand_table) }
-    ensures { (result ≡ code_at row t) × (result < 1024) }
-{
-    operands[row * 4 + t] as u64
-}
-
-// The instruction of a row, from the fields of its parcels.
-fn decode(operands: &[u16; 428], row: usize, fields: &[u64; 8]) -> Instruction
-    requires { (row < 107) × (operands.now ≡ operand_table) }
-    ensures { result ≡ instruction_by row fields.now }
-{
-    let a = code_at(operands, row, 0);
-    if a == 0 {
-        return Instruction::Bare(row);
-    }
-    let first = operand(a, fields);
-    let b = code_at(operands, row, 1);
-    if b == 0 {
-        return Instruction::OfOne(row, first);
-    }
-    let second = operand(b, fields);
-    let c = code_at(operands, row, 2);
-    if c == 0 {
-        return Instruction::OfTwo(row, first, second);
-    }
-    let third = operand(c, fields);
-    let d = code_at(operands, row, 3);
-    if d == 0 {
-        return Instruction::OfThree(row, first, second, third);
-    }
-    Instruction::OfFour(row, first, second, third, operand(d, fields))
-}
-
-// From here on text is written where the caller has seen that there is room for it, so no place is tested.
+// From here on text is written where the caller has seen that there is room for it, so no place is tested. Numbers are written by
+// hand, since the library's `{:o}` promises nothing of what it writes.
 
 // The last octal digit of a number.
 fn digit(n: u64) -> u8
@@ -495,6 +737,7 @@ fn put_two_digits(line: &mut [u8], at: usize, n: u64)
 }
 
 // An octal number of at most four digits, without needless zeros.
+#[tactic(auto, using(crate::proofs::Octal::long_rules))]
 fn put_few(line: &mut [u8], at: usize, n: u64) -> usize
     requires { (n < 4096) × (at + length (shown 8 1 n) ≤ length line.old) }
     ensures { Wrote line.old at (shown 8 1 n) line.new result }
@@ -518,6 +761,7 @@ fn put_few(line: &mut [u8], at: usize, n: u64) -> usize
 }
 
 // One of at most eight.
+#[tactic(auto, using(crate::proofs::Octal::long_rules))]
 fn put_octal(line: &mut [u8], at: usize, n: u64) -> usize
     requires { (n < 16777216) × (at + length (shown 8 1 n) ≤ length line.old) }
     ensures { Wrote line.old at (shown 8 1 n) line.new result }
@@ -547,6 +791,7 @@ fn put_register(line: &mut [u8], at: usize, letter: u8, number: u64, wide: bool)
 }
 
 // An indexed memory place.
+#[tactic(auto, using(crate::proofs::Octal::long_rules))]
 fn put_place(line: &mut [u8], at: usize, offset: u64, register: u64) -> usize
     requires { Small (Indexed offset register) × (at + length (operand_text (Indexed offset register)) ≤ length line.old) }
     ensures { Wrote line.old at (operand_text (Indexed offset register)) line.new result }
@@ -559,6 +804,7 @@ fn put_place(line: &mut [u8], at: usize, offset: u64, register: u64) -> usize
 }
 
 // An operand's text.
+#[tactic(auto, unfolding(spelling::specs::Words::operand_text))]
 fn put_operand(line: &mut [u8], at: usize, op: Operand) -> usize
     requires { Small op × (at + length (operand_text op) ≤ length line.old) }
     ensures { Wrote line.old at (operand_text op) line.new result }
@@ -581,106 +827,16 @@ struct Cut {
     from: usize,
 }
 
-// The signs of a form from a place on, up to an operand or with the newline.
-fn put_signs(line: &mut [u8], at: usize, forms: &[u8; 1284], from: usize) -> Cut
-    requires { Ends (drop from forms.now) × (at + length (signs_of (drop from forms.now)) ≤ length line.old) × (length forms.now ≡ 1284) }
-    ensures wrote { Wrote line.old at (signs_of (drop from forms.now)) line.new result.at }
-    ensures rest { drop result.from forms.now ≡ after_signs (drop from forms.now) }
-{
-    let mut to = at;
-    let mut p = from;
-    loop {
-        let b = forms[p];
-        p += 1;
-        if b == 0 {
-            return Cut { at: to, from: p };
-        }
-        line[to] = b;
-        to += 1;
-        if b == 10 {
-            return Cut { at: to, from: p };
-        }
-    }
-}
-
-// An operand, and the signs after it.
-fn put_part(line: &mut [u8], forms: &[u8; 1284], cut: Cut, op: Operand) -> Cut
-    requires { Ends (drop cut.from forms.now) × Small op ×
-        (cut.at + length (operand_text op ++ signs_of (drop cut.from forms.now)) ≤ length line.old) × (length forms.now ≡ 1284) }
-    ensures wrote { Wrote line.old cut.at (operand_text op ++ signs_of (drop cut.from forms.now)) line.new result.at }
-    ensures rest { drop result.from forms.now ≡ after_signs (drop cut.from forms.now) }
-{
-    let end = put_operand(line, cut.at, op);
-    put_signs(line, end, forms, cut.from)
-}
-
-// An instruction's line.
-fn put_instruction(line: &mut [u8], start: usize, forms: &[u8; 1284], ins: Instruction) -> usize
-    requires { Ready line.old start forms.now ins }
-    ensures { Wrote line.old start (spelled_of forms.now ins) line.new result }
-{
-    match ins {
-        Instruction::Bare(row) => put_signs(line, start, forms, row * 12).at,
-        Instruction::OfOne(row, a) => {
-            let head = put_signs(line, start, forms, row * 12);
-            put_part(line, forms, head, a).at
-        }
-        Instruction::OfTwo(row, a, b) => {
-            let head = put_signs(line, start, forms, row * 12);
-            let after_a = put_part(line, forms, head, a);
-            put_part(line, forms, after_a, b).at
-        }
-        Instruction::OfThree(row, a, b, c) => {
-            let head = put_signs(line, start, forms, row * 12);
-            let after_a = put_part(line, forms, head, a);
-            let after_b = put_part(line, forms, after_a, b);
-            put_part(line, forms, after_b, c).at
-        }
-        Instruction::OfFour(row, a, b, c, d) => {
-            let head = put_signs(line, start, forms, row * 12);
-            let after_a = put_part(line, forms, head, a);
-            let after_b = put_part(line, forms, after_a, b);
-            let after_c = put_part(line, forms, after_b, c);
-            put_part(line, forms, after_c, d).at
-        }
-    }
-}
-
 // A parcel as a line of data.
-pub fn put_data(line: &mut [u8], at: usize, x: u64) -> usize
-    requires { (at + 12 ≤ length line.old) × (x < 65536) }
+pub fn put_data(line: &mut [u8], at: usize, x: u16) -> usize
+    requires { at + 12 ≤ length line.old }
     ensures { Wrote line.old at (data_line x) line.new result × (result ≡ at + 12) }
 {
-    line[at] = b'd';
-    line[at + 1] = b'a';
-    line[at + 2] = b't';
-    line[at + 3] = b'a';
-    line[at + 4] = b'=';
-    put_two_digits(line, at + 5, x / 4096);
-    put_two_digits(line, at + 7, x / 64);
-    put_two_digits(line, at + 9, x);
+    let n = x as u64;
+    line[at..at + 5].copy_from_slice(b"data=");
+    put_two_digits(line, at + 5, n / 4096);
+    put_two_digits(line, at + 7, n / 64);
+    put_two_digits(line, at + 9, n);
     line[at + 11] = b'\n';
     at + 12
-}
-
-// The line of the instruction whose first parcel is x, of the row `row`, and whose second is m, or 0: at most 16 bytes.
-pub fn put_line(
-    line: &mut [u8],
-    at: usize,
-    forms: &[u8; 1284],
-    operands: &[u16; 428],
-    row: u64,
-    x: u64,
-    m: u64,
-) -> usize
-    requires { (at + length (line_of x m) ≤ length line.old) × (row ≡ row_of x) × (x < 65536) × (m < 65536) × (forms.now ≡ form_table) ×
-        (operands.now ≡ operand_table) }
-    ensures { Wrote line.old at (line_of x m) line.new result × (at + 2 ≤ result) × (result ≤ at + 16) }
-{
-    if row == 0 {
-        return put_data(line, at, x);
-    }
-    let fs = fields(x, m);
-    let ins = decode(operands, row as usize, &fs);
-    put_instruction(line, at, forms, ins)
 }

@@ -5,7 +5,6 @@
 
 ghost use Rattle.std.specs.Prelude.{◌≤◌, ◌<◌, length, IfOk};
 
-use octal::Address;
 use std::env::{Env, FillError};
 use std::io::{self, Write};
 
@@ -32,8 +31,8 @@ fn asked(rt: &impl Env) -> Task {
                 return Task::Unknown;
             }
             match octal::parcel_address(&word[..n]) {
-                Address::At(a) => Task::Wide(a),
-                Address::NoAddress => Task::Unknown,
+                Some(a) => Task::Wide(a),
+                None => Task::Unknown,
             }
         }
         _ => Task::Unknown,
@@ -51,7 +50,8 @@ fn write_line(rt: &impl Print, parcels: &[u16], address: u64) -> io::Result<usiz
     Ok(line.parcels)
 }
 
-// Writes the lines of parcels with their addresses. They may be 6 MB, so each is written by itself.
+// Writes the lines of parcels with their addresses. They may be 6 MB, so each is written by itself. How far a turn goes is what
+// `write_line` answers, and no range counts that.
 fn write_wide(rt: &impl Print, parcels: &[u16], address: u64) -> io::Result<()>
     requires { length parcels.now ≤ 1048576 }
 {
@@ -89,8 +89,11 @@ fn answer_wide(
 {
     let n = input::read_full(&mut rt.reader(), text)?;
     match desk::read(&text[..n], parcels, out) {
-        desk::Input::Holds(k) => write_wide(rt, &parcels[..k], address),
-        desk::Input::Refused(end) => io::writer(rt).write_all(&out[..end]),
+        Ok(k) => write_wide(rt, &parcels[..k], address),
+        Err(refused) => {
+            let end = refused.bytes;
+            io::writer(rt).write_all(&out[..end])
+        }
     }
 }
 

@@ -3,10 +3,9 @@
 use Rattle.std.proofs.Common.{◌≡◌, ℕ, zero, suc, ◌+◌, ◌-◌, ◌*◌, ◌%◌, ◌^◌, Bool, true, false, ◌||◌, eqb, leb, List, length, set, sym}
 use Rattle.std.proofs.Common.{refl, ap, ◌∙◌, arith, length-set, leb-true}
 use mathlib.Core.Path.{fun_ext}
-use Rattle.machine.specs.declared.Place.{Place}
-use Rattle.machine.specs.declared.Place.TheVariants.{Inside, Outside}
+use Rattle.std.specs.Prelude.{Option, Some, None, Result, Ok, Err}
+use Rattle.machine.specs.declared.Cause.{Cause}
 use Rattle.machine.specs.declared.Stray.{Stray}
-use Rattle.machine.specs.declared.Stray.TheVariants.{Clean, First}
 use Rattle.machine.specs.declared.Reach.{Reach}
 use Rattle.machine.specs.declared.Work.{Work}
 use Rattle.machine.specs.declared.Work.TheVariants.{PastOne, PastTwo, StrayedOne, StrayedTwo}
@@ -16,18 +15,18 @@ use Rattle.machine.specs.Memory.{Field, data_field, place_of, load_at, store_at,
 use Rattle.machine.specs.Act.{reads_words, writes_words}
 use Rattle.machine.specs.Work.{done, past, outside, perform}
 use Rattle.machine.specs.Layout.{registers_of, frame_of}
-use Rattle.access.specs.Window.{Reaches, Spot, at_place, beyond, spot_of, is_beyond, load_in, store_in, place_in}
+use Rattle.access.specs.Window.{Reaches, spot_of, is_beyond, load_in, store_in, place_in}
 use Rattle.access.specs.Executed.{told, Puts, ended_by, noted}
 use Rattle.access.proofs.Windows.{window}
 use Rattle.access.proofs.Places.{p-puts}
-use Rattle.memory.specs.Moves.{Window, Held, row_in, any_beyond, stores_at}
+use Rattle.memory.specs.Moves.{DataWindow, Held, row_in, any_beyond, stores_at}
 
 -- what a processor reaches has such a window
-pub reached : (fr : Frame) (f : Reach) (len : ℕ) → Reaches fr f len → Window fr f.operands f.words len
+pub reached : (fr : Frame) (f : Reach) (len : ℕ) → Reaches fr f len → DataWindow fr f.operands.first f.operands.words len
 reached fr f len h = record { dba = h.dba; size = h.size; start = h.operands; count = h.words }
 
 -- it lies in the memory, and its places are those of the field
-module _ (fr : Frame) (first words len : ℕ) (h : Window fr first words len) where
+module _ (fr : Frame) (first words len : ℕ) (h : DataWindow fr first words len) where
   pub held : Held first words len
   held = go (leb (fr.dla * 32) len) refl h.count
     where
@@ -42,7 +41,7 @@ module _ (fr : Frame) (first words len : ℕ) (h : Window fr first words len) wh
   unfolding place_in
   place-of n address e = rw e (window (data_field fr) len address h.dba h.size first words h.start h.count)
 
-  pub row_of : (from by : ℕ) → ◌≡◌ {A = ℕ → Spot} (row_in first words from by) (λ e. spot_of (place_of (data_field fr) len (from + e * by)))
+  pub row_of : (from by : ℕ) → ◌≡◌ {A = ℕ → Option ℕ} (row_in first words from by) (λ e. spot_of (place_of (data_field fr) len (from + e * by)))
   row_of from by = fun_ext (λ e. place-of (from + e * by) (from + e * by) refl)
 
 -- only the low 22 bits of an address count
@@ -51,38 +50,38 @@ unfolding place_of
 place-low d len n address e = rw e
 
 -- a word is read and stored alike by a place and by a spot
-pub load-spot : (mem : List ℕ) (o : Place) → load_in mem (spot_of o) ≡ load_at mem o
-load-spot mem (Inside n) = refl
-load-spot mem (Outside cause) = refl
+pub load-spot : (mem : List ℕ) (o : Result ℕ Cause) → load_in mem (spot_of o) ≡ load_at mem o
+load-spot mem (Ok n) = refl
+load-spot mem (Err cause) = refl
 
-pub store-spot : (mem : List ℕ) (o : Place) (x : ℕ) → store_in mem (spot_of o) x ≡ store_at mem o x
-store-spot mem (Inside n) x = refl
-store-spot mem (Outside cause) x = refl
+pub store-spot : (mem : List ℕ) (o : Result ℕ Cause) (x : ℕ) → store_in mem (spot_of o) x ≡ store_at mem o x
+store-spot mem (Ok n) x = refl
+store-spot mem (Err cause) x = refl
 
 -- whether one lies outside
-abbrev pub is_stray : Stray → Bool
-is_stray Clean = false
-is_stray (First cause e) = true
+abbrev pub is_stray : Option Stray → Bool
+is_stray None = false
+is_stray (Some stray) = true
 
 pub any-outside : (d : Field) (at : ℕ → ℕ) (len n : ℕ) → any_beyond (λ e. spot_of (place_of d len (at e))) n ≡ is_stray (first_outside d at len n)
 unfolding any_beyond first_outside
 any-outside d at len zero = refl
 any-outside d at len (suc n) = rw (any-outside d at len n) (go (first_outside d at len n) (place_of d len (at n)))
   where
-    here : (o : Place) → is_beyond (spot_of o) ≡ is_stray (stray_at n o)
-    here (Inside m) = refl
-    here (Outside cause) = refl
+    here : (o : Result ℕ Cause) → is_beyond (spot_of o) ≡ is_stray (stray_at n o)
+    here (Ok m) = refl
+    here (Err cause) = refl
 
-    go : (s : Stray) (o : Place) → (is_stray s || is_beyond (spot_of o)) ≡ is_stray (or_else s (stray_at n o))
-    go Clean o = here o
-    go (First cause e) o = refl
+    go : (s : Option Stray) (o : Result ℕ Cause) → (is_stray s || is_beyond (spot_of o)) ≡ is_stray (or_else s (stray_at n o))
+    go None o = here o
+    go (Some stray) o = refl
 
 -- a store leaves the length
-stored-length : (p : Spot) (mem : List ℕ) (x : ℕ) → length (store_in mem p x) ≡ length mem
-stored-length (at_place n) mem x = length-set mem n x
-stored-length beyond mem x = refl
+stored-length : (p : Option ℕ) (mem : List ℕ) (x : ℕ) → length (store_in mem p x) ≡ length mem
+stored-length (Some n) mem x = length-set mem n x
+stored-length None mem x = refl
 
-stores-length : (at : ℕ → Spot) (val : ℕ → ℕ) (n : ℕ) (mem : List ℕ) → length (stores_at at val n mem) ≡ length mem
+stores-length : (at : ℕ → Option ℕ) (val : ℕ → ℕ) (n : ℕ) (mem : List ℕ) → length (stores_at at val n mem) ≡ length mem
 unfolding stores_at
 stores-length at val zero mem = refl
 stores-length at val (suc n) mem = stored-length (at n) (stores_at at val n mem) (val n) ∙ stores-length at val n mem
@@ -96,25 +95,25 @@ all-stored d at val (suc n) mem =
     (store-spot _ (place_of d (length mem) (at n)) (val n))
 
 -- an instruction of so many parcels ended with w as its stray s has it; from r' to r'' only P's place changed, and r'' tells s
-pub record Tells (w : Work) (parcels : ℕ) (r' r'' : List ℕ) (len : ℕ) (s : Stray) : Type 0 where
+pub record Tells (w : Work) (parcels : ℕ) (r' r'' : List ℕ) (len : ℕ) (s : Option Stray) : Type 0 where
   pub work : w ≡ past parcels s
   pub stray : told w r'' len ≡ s
   pub frame : frame_of r'' ≡ frame_of r'
   pub registers : registers_of r'' ≡ registers_of r'
 
 -- where it strayed, P's place tells it
-pub tells : (parcels : ℕ) (o : Bool) (n : ℕ) (r' : List ℕ) (len : ℕ) (s : Stray) → o ≡ is_stray s
+pub tells : (parcels : ℕ) (o : Bool) (n : ℕ) (r' : List ℕ) (len : ℕ) (s : Option Stray) → o ≡ is_stray s
     → told (pick (eqb parcels 1) StrayedOne StrayedTwo) (set r' 0 n) len ≡ s → Tells (ended_by parcels o) parcels r' (noted o n r') len s
 tells parcels o n r' len s e t = rw e (go s t)
   where
-    clean : (b : Bool) → told (pick b PastOne PastTwo) r' len ≡ Clean
+    clean : (b : Bool) → told (pick b PastOne PastTwo) r' len ≡ None
     clean true = refl
     clean false = refl
 
-    go : (s : Stray) → told (pick (eqb parcels 1) StrayedOne StrayedTwo) (set r' 0 n) len ≡ s
+    go : (s : Option Stray) → told (pick (eqb parcels 1) StrayedOne StrayedTwo) (set r' 0 n) len ≡ s
         → Tells (ended_by parcels (is_stray s)) parcels r' (noted (is_stray s) n r') len s
-    go Clean t = record { work = refl; stray = clean (eqb parcels 1); frame = refl; registers = refl }
-    go (First cause e) t = let k = p-puts r' n in record { work = refl; stray = t; frame = k.1; registers = k.0 }
+    go None t = record { work = refl; stray = clean (eqb parcels 1); frame = refl; registers = refl }
+    go (Some stray) t = let k = p-puts r' n in record { work = refl; stray = t; frame = k.1; registers = k.0 }
 
 -- memory was read, and a register written
 pub reads : (w : Work) (r r' r'' mem : List ℕ) (parcels n : ℕ) (at : ℕ → ℕ) (put : (ℕ → ℕ) → Put)

@@ -1,5 +1,5 @@
 -- 034 to 037, 176 and 177: from the row that was moved to what the definitions say of the code. Assumes nothing.
-use Rattle.std.proofs.Common.{◌≡◌, ℕ, zero, suc, ◌+◌, ◌*◌, ◌/◌, ◌%◌, ◌^◌, ◌<◌, ◌≤◌, Bool, true, false, List, length, get_or, sym}
+use Rattle.std.proofs.Common.{◌≡◌, ℕ, zero, suc, ◌+◌, ◌*◌, ◌/◌, ◌%◌, ◌^◌, ◌<◌, ◌≤◌, Bool, true, false, List, length, get_or, sym, Option}
 use Rattle.std.proofs.Common.{refl, ap, ◌∙◌, subst, arith, get_or-set_same, le-ltb, lt-ltb}
 use mathlib.Core.Path.{fun_ext}
 use Rattle.machine.specs.Word.{pick}
@@ -10,17 +10,17 @@ use Rattle.machine.specs.Act.{Instr, reads_words, writes_words, read_b, store_b,
 use Rattle.machine.specs.Codes.{holds_one, code_of}
 use Rattle.machine.specs.Work.{outside}
 use Rattle.machine.specs.Layout.{registers_of, frame_of}
-use Rattle.access.specs.Window.{Spot, load_in}
+use Rattle.access.specs.Window.{load_in}
 use Rattle.access.specs.Executed.{block_count, block_by, Puts, ended_by, noted, cut_to, ring_at}
 use Rattle.access.proofs.Leaf.{act_at, one}
 use Rattle.access.proofs.Places.{p-puts, to-elements, el-at}
 use Rattle.access.proofs.Rings.{bs-of, ts-of, ring-b, ring-t, ring-fill}
-use Rattle.memory.specs.Moves.{Window, row_in, any_beyond, stores_at, ReadRow, StoredRow, Moved}
+use Rattle.memory.specs.Moves.{DataWindow, row_in, any_beyond, stores_at, ReadRow, StoredRow, Moved}
 use Rattle.memory.proofs.Fields.{row_of, load-spot, any-outside, all-stored, Tells, tells, reads, writes}
 
 -- an instruction of one parcel that moves a row of `count` words
 module _ (n : Instr) (count by : ℕ) (r mem : List ℕ) (first words x : ℕ) (o : Bool)
-    (h : Window (frame_of r) first words (length mem)) (held : code_of (user (frame_of r)) x ≡ holds_one n)
+    (h : DataWindow (frame_of r) first words (length mem)) (held : code_of (user (frame_of r)) x ≡ holds_one n)
     (has : (count ≡ block_count (registers_of r) x) × (by ≡ block_by (registers_of r) x))
     (beyond : o ≡ any_beyond (row_in first words (ai (registers_of r) 0) by) count) where
   abbrev at : ℕ → ℕ
@@ -30,7 +30,7 @@ module _ (n : Instr) (count by : ℕ) (r mem : List ℕ) (first words x : ℕ) (
   row_told : (r' : List ℕ) → length r' ≡ 672 → frame_of r' ≡ frame_of r → (registers_of r').a ≡ (registers_of r).a → (registers_of r').vl ≡ (registers_of r).vl
       → Tells (ended_by 1 o) 1 r' (noted o x r') (length mem) (first_outside (data_field (frame_of r)) at (length mem) count)
   row_told r' long f a v =
-      let one = beyond ∙ ap (λ (row : ℕ → Spot). any_beyond row count) (row_of (frame_of r) first words (length mem) h (ai (registers_of r) 0) by)
+      let one = beyond ∙ ap (λ (row : ℕ → Option ℕ). any_beyond row count) (row_of (frame_of r) first words (length mem) h (ai (registers_of r) 0) by)
       ∙ any-outside (data_field (frame_of r)) at (length mem) count in
       tells 1 o x r' (length mem) _ one
       (rw ((p-puts r' x).0, (p-puts r' x).1, get_or-set_same r' 0 x 0 (omega arith), f, a, v, has.0, has.1))
@@ -57,7 +57,7 @@ module _ (n : Instr) (count by : ℕ) (r mem : List ℕ) (first words x : ℕ) (
       → mem' ≡ stores_at (row_in first words (ai (registers_of r) 0) by) val count mem → Moved o r r mem mem' x
   unfolding outside
   row-stored val mem' long a k =
-      let t = k ∙ ap (λ (row : ℕ → Spot). stores_at row val count mem) (row_of (frame_of r) first words (length mem) h (ai (registers_of r) 0) by)
+      let t = k ∙ ap (λ (row : ℕ → Option ℕ). stores_at row val count mem) (row_of (frame_of r) first words (length mem) h (ai (registers_of r) 0) by)
       ∙ all-stored (data_field (frame_of r)) at val count mem in
       let s = row_told r long refl refl refl in
       record {
@@ -135,7 +135,7 @@ block-from : (b : Bool) (r : List ℕ) (jk : ℕ) → ◌≡◌ {A = ℕ → ℕ
 block-from true r jk = ring-b r jk
 block-from false r jk = ring-t r jk
 
-module _ (b : Bool) (r mem : List ℕ) (first words x : ℕ) (o : Bool) (h : Window (frame_of r) first words (length mem)) where
+module _ (b : Bool) (r mem : List ℕ) (first words x : ℕ) (o : Bool) (h : DataWindow (frame_of r) first words (length mem)) where
   abbrev count : ℕ
   count = ai (registers_of r) (i_of x) % 128
 
@@ -158,13 +158,13 @@ module _ (b : Bool) (r mem : List ℕ) (first words x : ℕ) (o : Bool) (h : Win
       (g.became ∙ ap (λ (val : ℕ → ℕ). stores_at (row_in first words (ai (registers_of r) 0) 1) val count mem) (block-from b r (jk_of x)))
 
 -- only the first n values matter
-stores_same : (at : ℕ → Spot) (f g : ℕ → ℕ) (n : ℕ) (mem : List ℕ) → ((e : ℕ) → e < n → f e ≡ g e) → stores_at at f n mem ≡ stores_at at g n mem
+stores_same : (at : ℕ → Option ℕ) (f g : ℕ → ℕ) (n : ℕ) (mem : List ℕ) → ((e : ℕ) → e < n → f e ≡ g e) → stores_at at f n mem ≡ stores_at at g n mem
 unfolding stores_at
 stores_same at f g zero mem h = refl
 stores_same at f g (suc n) mem h = rw (stores_same at f g n mem (λ e l. h e (omega arith)), h n (omega arith))
 
 -- 176 and 177: the elements of a V register
-module _ (r mem : List ℕ) (first words x : ℕ) (o : Bool) (h : Window (frame_of r) first words (length mem)) (short : (registers_of r).vl ≤ 64) where
+module _ (r mem : List ℕ) (first words x : ℕ) (o : Bool) (h : DataWindow (frame_of r) first words (length mem)) (short : (registers_of r).vl ≤ 64) where
   vector-has : 64 ≤ x / 512 → ((registers_of r).vl ≡ block_count (registers_of r) x) × (ak (registers_of r) (k_of x) ≡ block_by (registers_of r) x)
   vector-has l = rw (le-ltb (x / 512) 64 l) (refl, refl)
 

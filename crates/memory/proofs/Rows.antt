@@ -1,19 +1,26 @@
 -- Rows of words by windows: places, one turn of each loop, and the words that go straight. Assumes nothing.
-use Rattle.std.proofs.Common.{◌≡◌, ℕ, zero, suc, ◌+◌, ◌-◌, ◌*◌, ◌%◌, ◌^◌, ◌<◌, ◌≤◌, Bool, true, false, ◌&&◌, ◌||◌, eqb, leb, List}
+use Rattle.std.proofs.Common.{◌≡◌, ℕ, zero, suc, ◌+◌, ◌-◌, ◌*◌, ◌%◌, ◌^◌, ◌<◌, ◌≤◌, Bool, true, false, ◌&&◌, ◌||◌, eqb, leb, List, None, Option, Some, is_some, not, is_none}
 use Rattle.std.proofs.Common.{get_or, sym, refl, ◌∙◌, add-one, arith, le-ltb, lt-ltb, eqb-true, leb-true}
 use Rattle.machine.specs.Word.{pick}
 use Rattle.machine.specs.State.{fill}
-use Rattle.access.specs.Window.{Spot, at_place, beyond, is_beyond, load_in, store_in, place_in}
+use Rattle.access.specs.Window.{is_beyond, load_in, store_in, place_in}
 use Rattle.access.specs.Executed.{cut_to, ring_at}
 use Rattle.memory.specs.Moves.{row_in, any_beyond, stores_at, straight_of}
 
+-- what `is_none` answers
+pub is-none : {T : Type 0} (o : Option T) (b : Bool) → is_some o ≡ not b → b ≡ is_none o
+is-none None true e = refl
+is-none None false e = cc
+is-none (Some x) true e = cc
+is-none (Some x) false e = refl
+
 -- an address whose low 22 bits are w: in a window, and beyond it
 module _ (first words n w : ℕ) (low : w ≡ n % 2 ^ 22) where
-  pub place-in : w < words → place_in first words n ≡ at_place (first + w)
+  pub place-in : w < words → place_in first words n ≡ Some (first + w)
   unfolding place_in
   place-in l = rw (← low, lt-ltb w words l)
 
-  pub place_out : words ≤ w → place_in first words n ≡ beyond
+  pub place_out : words ≤ w → place_in first words n ≡ None
   unfolding place_in
   place_out l = rw (← low, le-ltb w words l)
 
@@ -27,11 +34,11 @@ pub next_address : (at from e by : ℕ) → at % 2 ^ 22 ≡ (from + e * by) % 2 
 next_address at from e by h = omega arith
 
 -- one word more
-pub beyond-turn : (at : ℕ → Spot) (e : ℕ) (o b : Bool) → o ≡ any_beyond at e → b ≡ is_beyond (at e) → (o || b) ≡ any_beyond at (e + 1)
+pub beyond-turn : (at : ℕ → Option ℕ) (e : ℕ) (o b : Bool) → o ≡ any_beyond at e → b ≡ is_beyond (at e) → (o || b) ≡ any_beyond at (e + 1)
 unfolding any_beyond
 beyond-turn at e o b p q = rw add-one (rw (p, q))
 
-pub stores-turn : (at : ℕ → Spot) (val : ℕ → ℕ) (e : ℕ) (m₀ m m' : List ℕ) → m ≡ stores_at at val e m₀ → m' ≡ store_in m (at e) (val e)
+pub stores-turn : (at : ℕ → Option ℕ) (val : ℕ → ℕ) (e : ℕ) (m₀ m m' : List ℕ) → m ≡ stores_at at val e m₀ → m' ≡ store_in m (at e) (val e)
     → m' ≡ stores_at at val (e + 1) m₀
 unfolding stores_at
 stores-turn at val e m₀ m m' p q = rw add-one (rw (q, p))
@@ -54,14 +61,14 @@ fill-ring at reg f g (suc n) l h k =
     let i : at + (reg + n) % 64 ≡ at + reg + n = omega arith in
     rw (i, fill-ring at reg f g n l (omega arith) (λ e t. k e (omega arith)), k n (omega arith))
 
-fill-row : (first : ℕ) (at : ℕ → Spot) (f g : ℕ → ℕ) (n : ℕ) (l : List ℕ) → ((e : ℕ) → e < n → at e ≡ at_place (first + e)) → ((e : ℕ) → e < n → f e ≡ g e)
+fill-row : (first : ℕ) (at : ℕ → Option ℕ) (f g : ℕ → ℕ) (n : ℕ) (l : List ℕ) → ((e : ℕ) → e < n → at e ≡ Some (first + e)) → ((e : ℕ) → e < n → f e ≡ g e)
     → fill first f n l ≡ stores_at at g n l
 unfolding fill stores_at
 fill-row first at f g zero l h k = refl
 fill-row first at f g (suc n) l h k =
     rw (fill-row first at f g n l (λ e t. h e (omega arith)) (λ e t. k e (omega arith)), h n (omega arith), k n (omega arith))
 
-none-beyond : (first : ℕ) (at : ℕ → Spot) (n : ℕ) → ((e : ℕ) → e < n → at e ≡ at_place (first + e)) → any_beyond at n ≡ false
+none-beyond : (first : ℕ) (at : ℕ → Option ℕ) (n : ℕ) → ((e : ℕ) → e < n → at e ≡ Some (first + e)) → any_beyond at n ≡ false
 unfolding any_beyond
 none-beyond first at zero h = refl
 none-beyond first at (suc n) h = rw (none-beyond first at n (λ e t. h e (omega arith)), h n (omega arith))
@@ -104,7 +111,7 @@ straight-known words reg n from by m l e = go (eqb by 1) (leb (reg + n) 64) (leb
 
 module _ (first words reg n from by m : ℕ) (short : words ≤ 2 ^ 22) (s : Straight words reg n from by m) where
   -- their places follow one another
-  straight-place : (e : ℕ) → e < m → row_in first words from by e ≡ at_place (first + from % 2 ^ 22 + e)
+  straight-place : (e : ℕ) → e < m → row_in first words from by e ≡ Some (first + from % 2 ^ 22 + e)
   unfolding place_in
   straight-place e l =
       let a : (from + e * by) % 2 ^ 22 ≡ from % 2 ^ 22 + e = rw (s.address e (omega arith)) (omega (arith, s.inside e l)) in

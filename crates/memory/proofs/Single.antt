@@ -1,7 +1,7 @@
 -- 10h to 13h: from the word that was moved to what the definitions say of the code. Assumes nothing.
+use Rattle.std.specs.Prelude.{Some}
 use Rattle.std.proofs.Common.{◌≡◌, ℕ, zero, suc, ◌+◌, ◌*◌, ◌/◌, ◌%◌, ◌^◌, ◌<◌, Bool, List, length, refl, ◌∙◌, arith, get_or-set_same}
 use Rattle.machine.specs.declared.Reach.{Reach}
-use Rattle.machine.specs.declared.Fetched.TheVariants.{Parcel}
 use Rattle.machine.specs.declared.Work.{Work}
 use Rattle.machine.specs.Parcel.{h_of, i_of, jkm_of, onward}
 use Rattle.machine.specs.State.{Registers, user, ah}
@@ -66,13 +66,13 @@ store-act S r status x m past = refl
 
 -- the word at Ah + jkm, whose low 64 bits are n
 module _ (file : File) (w : Work) (r mem : List ℕ) (f : Reach) (p x m n : ℕ) (o : Bool) (h : Reaches (frame_of r) f (length mem))
-    (second : fetch_of (frame_of r) mem (onward p 1) ≡ Parcel m) (low : n ≡ (ah (registers_of r) (h_of x) + jkm_of x m) % 2 ^ 64)
-    (beyond : o ≡ is_beyond (place_in f.operands f.words n)) where
+    (second : fetch_of (frame_of r) mem (onward p 1) ≡ Some m) (low : n ≡ (ah (registers_of r) (h_of x) + jkm_of x m) % 2 ^ 64)
+    (beyond : o ≡ is_beyond (place_in f.operands.first f.operands.words n)) where
   abbrev address : ℕ
   address = ah (registers_of r) (h_of x) + jkm_of x m
 
-  place : place_in f.operands f.words n ≡ spot_of (place_of (data_field (frame_of r)) (length mem) address)
-  place = place-of (frame_of r) f.operands f.words (length mem) (reached (frame_of r) f (length mem) h) n address (omega (arith, low))
+  place : place_in f.operands.first f.operands.words n ≡ spot_of (place_of (data_field (frame_of r)) (length mem) address)
+  place = place-of (frame_of r) f.operands.first f.operands.words (length mem) (reached (frame_of r) f (length mem) h) n address (omega (arith, low))
 
   -- it ended as its stray has it, and P's place tells the address
   single : (r' r'' : List ℕ) → frame_of r' ≡ frame_of r → length r' ≡ 672 → Ends w r' r'' 2 o (n % 2 ^ 22)
@@ -86,7 +86,7 @@ module _ (file : File) (w : Work) (r mem : List ℕ) (f : Reach) (p x m n : ℕ)
       (rw ((p-puts r' (n % 2 ^ 22)).1, e, get_or-set_same r' 0 (n % 2 ^ 22) 0 (omega arith), same)))
 
   -- so it was loaded, or stored
-  pub loaded : (r' r'' : List ℕ) (y : ℕ) → x / 512 / 8 ≡ load_code file → y ≡ load_in mem (place_in f.operands f.words n)
+  pub loaded : (r' r'' : List ℕ) (y : ℕ) → x / 512 / 8 ≡ load_code file → y ≡ load_in mem (place_in f.operands.first f.operands.words n)
       → Puts r r' (to_register file (i_of x) y) → length r' ≡ 672 → Ends w r' r'' 2 o (n % 2 ^ 22) → Executes w r r'' mem mem p x
   unfolding load outside
   loaded r' r'' y c g k l e =
@@ -96,7 +96,7 @@ module _ (file : File) (w : Work) (r mem : List ℕ) (f : Reach) (p x m n : ℕ)
       (reads w r r' r'' mem 2 1 (λ e. address) (λ word. to_register file (i_of x) (word 0)) s t))
 
   pub stored : (r'' mem' : List ℕ) → x / 512 / 8 ≡ store_code file
-      → mem' ≡ store_in mem (place_in f.operands f.words n) (register_of file (registers_of r) (i_of x))
+      → mem' ≡ store_in mem (place_in f.operands.first f.operands.words n) (register_of file (registers_of r) (i_of x))
       → length r ≡ 672 → Ends w r r'' 2 o (n % 2 ^ 22) → Executes w r r'' mem mem' p x
   unfolding store stores outside
   stored r'' mem' c g l e =

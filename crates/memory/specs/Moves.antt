@@ -1,8 +1,8 @@
 -- What the functions that move words of memory promise. Assumes nothing.
-use Rattle.std.specs.Prelude.{◌≡◌, ℕ, zero, suc, ◌+◌, ◌-◌, ◌*◌, ◌%◌, ◌^◌, ◌<◌, ◌≤◌, Bool, false, ◌&&◌, ◌||◌, List, ◌==◌, nat_le, slice_index}
+use Rattle.std.specs.Prelude.{◌≡◌, ℕ, zero, suc, ◌+◌, ◌-◌, ◌*◌, ◌%◌, ◌^◌, ◌<◌, ◌≤◌, Bool, false, ◌&&◌, ◌||◌, List, ◌==◌, nat_le, slice_index, Option}
 use Rattle.machine.specs.Word.{pick}
 use Rattle.machine.specs.State.{Registers, Frame, ai, si, Put, to_a, to_s}
-use Rattle.access.specs.Window.{extent, Inside, Spot, is_beyond, load_in, store_in, place_in}
+use Rattle.access.specs.Window.{extent, Inside, is_beyond, load_in, store_in, place_in}
 use Rattle.access.specs.Executed.{Executes, ended_by, noted, cut_to, ring_at}
 use Rattle.memory.specs.declared.File.{File}
 use Rattle.memory.specs.declared.File.TheVariants.{A, S}
@@ -26,7 +26,7 @@ to_register A i word = to_a i (word % 2 ^ 24)
 to_register S i word = to_s i word
 
 -- `words` words from `first` on are the data field of a processor with the frame fr, in a memory of len words
-pub record Window (fr : Frame) (first words len : ℕ) : Type 0 where
+pub record DataWindow (fr : Frame) (first words len : ℕ) : Type 0 where
   pub dba : fr.dba < 2 ^ 17
   pub size : len ≤ 2 ^ 22
   pub start : first ≡ fr.dba * 32
@@ -39,16 +39,16 @@ pub record Held (first words len : ℕ) : Type 0 where
   pub short : words ≤ 2 ^ 22
 
 -- the places of the addresses from, from + by, from + 2 by, ..
-abbrev pub row_in : ℕ → ℕ → ℕ → ℕ → (ℕ → Spot)
+abbrev pub row_in : ℕ → ℕ → ℕ → ℕ → (ℕ → Option ℕ)
 row_in first words from by = λ e. place_in first words (from + e * by)
 
 -- one of the first n places is outside
-unfoldable pub any_beyond : (ℕ → Spot) → ℕ → Bool
+unfoldable pub any_beyond : (ℕ → Option ℕ) → ℕ → Bool
 any_beyond at zero = false
 any_beyond at (suc n) = any_beyond at n || is_beyond (at n)
 
 -- n words stored, rising: word e is `val e`, at the place `at e`
-unfoldable pub stores_at : (ℕ → Spot) → (ℕ → ℕ) → ℕ → List ℕ → List ℕ
+unfoldable pub stores_at : (ℕ → Option ℕ) → (ℕ → ℕ) → ℕ → List ℕ → List ℕ
 stores_at at val zero mem = mem
 stores_at at val (suc n) mem = store_in (stores_at at val n mem) (at n) (val n)
 

@@ -1,18 +1,18 @@
-// Blocks of B and T registers and vectors, to and from memory: 034 to 037, 176 and 177. Each says whether a word lay outside the data field,
-// `words` words from `first` on; what that comes to is said by `access::ended`.
+// Blocks of B and T registers and vectors, to and from memory: 034 to 037, 176 and 177. Each says whether a word lay outside the window of
+// the data field; what that comes to is said by `access::ended`.
 ghost use Rattle.std.specs.Prelude.{◌≡◌, ◌/◌, ◌%◌, ◌≤◌, length};
 ghost use Rattle.machine.specs.Word.{pick};
 ghost use Rattle.machine.specs.Parcel.{i_of, j_of};
 ghost use Rattle.machine.specs.State.{ai};
 ghost use Rattle.machine.specs.Layout.{registers_of, frame_of};
-ghost use Rattle.memory.specs.Moves.{Window, Moved};
+ghost use Rattle.memory.specs.Moves.{DataWindow, Moved};
 
 use crate::operands;
 use crate::operands::Row;
+use machine::{Window, Words};
 
 // How many registers a block has: the low seven bits of Ai.
-fn block(r: &[u64], x: u64) -> usize
-    requires { length r.now ≡ 672 }
+fn block(r: &Words, x: u64) -> usize
     ensures { result ≡ ai (registers_of r.now) (i_of x) % 128 }
 {
     (access::a_i(r, x) % 128) as usize
@@ -25,10 +25,10 @@ fn place(b: bool) -> usize
     if b { access::B } else { access::T }
 }
 
-// 034, 036: B or T registers from jk on, from memory.
-fn read_block(r: &mut [u64], mem: &[u64], first: usize, words: u64, x: u64, b: bool) -> bool
-    requires whole { (length r.old ≡ 672) × (x / 512 ≡ pick b 0o034 0o036) }
-    requires window { Window (frame_of r.old) first words (length mem.now) }
+// 034, 036: B or else T registers from jk on, from memory.
+pub fn read(r: &mut Words, mem: &[u64], window: Window, x: u64, b: bool) -> bool
+    requires coded { x / 512 ≡ pick b 0o034 0o036 }
+    requires window { DataWindow (frame_of r.old) window.first window.words (length mem.now) }
     ensures { Moved result r.old r.new mem.now mem.now x }
 {
     let row = Row {
@@ -37,13 +37,13 @@ fn read_block(r: &mut [u64], mem: &[u64], first: usize, words: u64, x: u64, b: b
         n: block(r, x),
         by: 1,
     };
-    operands::read(r, mem, first, words, row, b)
+    operands::read(r, mem, window, row, b)
 }
 
-// 035, 037: the same to memory.
-fn store_block(r: &[u64], mem: &mut [u64], first: usize, words: u64, x: u64, b: bool) -> bool
-    requires whole { (length r.now ≡ 672) × (x / 512 ≡ pick b 0o035 0o037) }
-    requires window { Window (frame_of r.now) first words (length mem.old) }
+// 035, 037: the same to memory, of words that are lent to be read, and of memory to be written.
+pub fn store(r: &Words, mem: &mut [u64], window: Window, x: u64, b: bool) -> bool
+    requires coded { x / 512 ≡ pick b 0o035 0o037 }
+    requires window { DataWindow (frame_of r.now) window.first window.words (length mem.old) }
     ensures { Moved result r.now r.now mem.old mem.new x }
 {
     let row = Row {
@@ -52,49 +52,13 @@ fn store_block(r: &[u64], mem: &mut [u64], first: usize, words: u64, x: u64, b: 
         n: block(r, x),
         by: 1,
     };
-    operands::store(r, mem, first, words, row)
-}
-
-// 034: B registers from memory.
-pub fn read_b(r: &mut [u64], mem: &[u64], first: usize, words: u64, x: u64) -> bool
-    requires whole { (length r.old ≡ 672) × (x / 512 ≡ 0o034) }
-    requires window { Window (frame_of r.old) first words (length mem.now) }
-    ensures { Moved result r.old r.new mem.now mem.now x }
-{
-    read_block(r, mem, first, words, x, true)
-}
-
-// 035: B registers to memory.
-pub fn store_b(r: &[u64], mem: &mut [u64], first: usize, words: u64, x: u64) -> bool
-    requires whole { (length r.now ≡ 672) × (x / 512 ≡ 0o035) }
-    requires window { Window (frame_of r.now) first words (length mem.old) }
-    ensures { Moved result r.now r.now mem.old mem.new x }
-{
-    store_block(r, mem, first, words, x, true)
-}
-
-// 036: T registers from memory.
-pub fn read_t(r: &mut [u64], mem: &[u64], first: usize, words: u64, x: u64) -> bool
-    requires whole { (length r.old ≡ 672) × (x / 512 ≡ 0o036) }
-    requires window { Window (frame_of r.old) first words (length mem.now) }
-    ensures { Moved result r.old r.new mem.now mem.now x }
-{
-    read_block(r, mem, first, words, x, false)
-}
-
-// 037: T registers to memory.
-pub fn store_t(r: &[u64], mem: &mut [u64], first: usize, words: u64, x: u64) -> bool
-    requires whole { (length r.now ≡ 672) × (x / 512 ≡ 0o037) }
-    requires window { Window (frame_of r.now) first words (length mem.old) }
-    ensures { Moved result r.now r.now mem.old mem.new x }
-{
-    store_block(r, mem, first, words, x, false)
+    operands::store(r, mem, window, row)
 }
 
 // 176i0k: Vi from memory.
-pub fn read_v(r: &mut [u64], mem: &[u64], first: usize, words: u64, x: u64) -> bool
-    requires whole { (length r.old ≡ 672) × (x / 512 ≡ 0o176) × (j_of x ≡ 0) × ((registers_of r.old).vl ≤ 64) }
-    requires window { Window (frame_of r.old) first words (length mem.now) }
+pub fn read_v(r: &mut Words, mem: &[u64], window: Window, x: u64) -> bool
+    requires coded { (x / 512 ≡ 0o176) × (j_of x ≡ 0) × ((registers_of r.old).vl ≤ 64) }
+    requires window { DataWindow (frame_of r.old) window.first window.words (length mem.now) }
     ensures { Moved result r.old r.new mem.now mem.now x }
 {
     let n = access::vl(r);
@@ -105,13 +69,13 @@ pub fn read_v(r: &mut [u64], mem: &[u64], first: usize, words: u64, x: u64) -> b
         n,
         by,
     };
-    operands::read(r, mem, first, words, row, false)
+    operands::read(r, mem, window, row, false)
 }
 
 // 1770jk: Vj to memory.
-pub fn store_v(r: &[u64], mem: &mut [u64], first: usize, words: u64, x: u64) -> bool
-    requires whole { (length r.now ≡ 672) × (x / 512 ≡ 0o177) × (i_of x ≡ 0) × ((registers_of r.now).vl ≤ 64) }
-    requires window { Window (frame_of r.now) first words (length mem.old) }
+pub fn store_v(r: &Words, mem: &mut [u64], window: Window, x: u64) -> bool
+    requires coded { (x / 512 ≡ 0o177) × (i_of x ≡ 0) × ((registers_of r.now).vl ≤ 64) }
+    requires window { DataWindow (frame_of r.now) window.first window.words (length mem.old) }
     ensures { Moved result r.now r.now mem.old mem.new x }
 {
     let n = access::vl(r);
@@ -122,5 +86,5 @@ pub fn store_v(r: &[u64], mem: &mut [u64], first: usize, words: u64, x: u64) -> 
         n,
         by,
     };
-    operands::store(r, mem, first, words, row)
+    operands::store(r, mem, window, row)
 }

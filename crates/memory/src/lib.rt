@@ -13,7 +13,7 @@ ghost use Rattle.access.specs.Window.{Reaches};
 ghost use Rattle.access.specs.Executed.{Puts, Executes};
 ghost use Rattle.memory.specs.Moves.{load_code, store_code, register_of, to_register};
 
-use machine::{Fetched, ParcelAddr, Reach, Work};
+use machine::{ParcelAddr, Reach, Words, Work};
 
 // The registers that are loaded and stored one at a time.
 #[derive(Clone, Copy)]
@@ -23,16 +23,15 @@ pub enum File {
 }
 
 // The address Ah + jkm.
-fn indexed(r: &[u64], x: u64, m: u64) -> u64
-    requires { (length r.now ≡ 672) × (m < 2 ^ 16) }
+fn indexed(r: &Words, x: u64, m: u64) -> u64
+    requires { m < 2 ^ 16 }
     ensures { result ≡ (ah (registers_of r.now) (h_of x) + jkm_of x m) % 2 ^ 64 }
 {
     std::num::wrapping_add_u64(access::a_h(r, x), access::jkm(x, m))
 }
 
 // Ai or Si.
-fn register(r: &[u64], x: u64, file: File) -> u64
-    requires { length r.now ≡ 672 }
+fn register(r: &Words, x: u64, file: File) -> u64
     ensures { result ≡ register_of file (registers_of r.now) (i_of x) }
 {
     match file {
@@ -42,8 +41,7 @@ fn register(r: &[u64], x: u64, file: File) -> u64
 }
 
 // Ai becomes the low 24 bits of a word, or Si the word.
-fn set(r: &mut [u64], x: u64, file: File, y: u64)
-    requires { length r.old ≡ 672 }
+fn set(r: &mut Words, x: u64, file: File, y: u64)
     ensures { Puts r.old r.new (to_register file (i_of x) y) }
 {
     match file {
@@ -53,31 +51,31 @@ fn set(r: &mut [u64], x: u64, file: File, y: u64)
 }
 
 // 10h, 12h: Ai or Si from memory.
-pub fn load(r: &mut [u64], mem: &[u64], f: Reach, p: ParcelAddr, x: u64, file: File) -> Work
-    requires whole { (length r.old ≡ 672) × (x / 512 / 8 ≡ load_code file) }
+pub fn load(r: &mut Words, mem: &[u64], f: Reach, p: ParcelAddr, x: u64, file: File) -> Work
+    requires coded { x / 512 / 8 ≡ load_code file }
     requires reaches { Reaches (frame_of r.old) f (length mem.now) }
     ensures { Executes result r.old r.new mem.now mem.now p.0 x }
 {
-    let Fetched::Parcel(m) = access::fetch(mem, f, access::on(p, 1)) else {
+    let Some(m) = access::fetch(mem, f, access::on(p, 1)) else {
         return access::no_parcel(r);
     };
     let n = indexed(r, x, m);
-    let got = operands::get(mem, f.operands, f.words, n);
-    set(r, x, file, got.0);
-    access::ended(r, 2, got.1, n % 4194304)
+    let word = operands::get(mem, f.operands, n);
+    set(r, x, file, word.unwrap_or(0));
+    access::ended(r, 2, word.is_none(), n % 4194304)
 }
 
 // 11h, 13h: Ai or Si to memory.
-pub fn store(r: &mut [u64], mem: &mut [u64], f: Reach, p: ParcelAddr, x: u64, file: File) -> Work
-    requires whole { (length r.old ≡ 672) × (x / 512 / 8 ≡ store_code file) }
+pub fn store(r: &mut Words, mem: &mut [u64], f: Reach, p: ParcelAddr, x: u64, file: File) -> Work
+    requires coded { x / 512 / 8 ≡ store_code file }
     requires reaches { Reaches (frame_of r.old) f (length mem.old) }
     ensures { Executes result r.old r.new mem.old mem.new p.0 x }
 {
-    let Fetched::Parcel(m) = access::fetch(mem, f, access::on(p, 1)) else {
+    let Some(m) = access::fetch(mem, f, access::on(p, 1)) else {
         return access::no_parcel(r);
     };
     let n = indexed(r, x, m);
     let y = register(r, x, file);
-    let outside = operands::put(mem, f.operands, f.words, n, y);
+    let outside = operands::put(mem, f.operands, n, y);
     access::ended(r, 2, outside, n % 4194304)
 }

@@ -23,9 +23,9 @@ kind numbers = get_or numbers 1 15
 abbrev pub value : List ℕ → ℕ
 value numbers = get_or numbers 2 0
 
--- the three side by side
-abbrev pub three_of : List ℕ → List ℕ
-three_of numbers = refused numbers ∷ kind numbers ∷ value numbers ∷ []
+-- the last two side by side
+abbrev pub two_of : List ℕ → List ℕ
+two_of numbers = kind numbers ∷ value numbers ∷ []
 
 -- of the numbers of a stray: the cause, 0 for none; its element
 abbrev pub cause : List ℕ → ℕ

@@ -1,4 +1,5 @@
 -- A text that is read is the text of its parcels. Assumes nothing.
+use Rattle.std.specs.Prelude.{Option, Some, None}
 use mathlib.Core.Path.{◌≡◌, refl, sym, ap, ◌∙◌}
 use mathlib.Core.List.{List, [], ◌∷◌, ◌++◌, append_assoc, append-nil}
 use mathlib.Core.Bool.{Bool, true, false, ◌&&◌}
@@ -13,7 +14,7 @@ use borrow.Author.Tests.{ltb-true, lt-ltb, eqb-true, ltb-false}
 use Rattle.machine.specs.Word.{pick}
 use Rattle.text.specs.Digits.{byte_at, glyph_of, digits}
 use Rattle.octal.specs.Numbers.{within, digit_of, all_digits, number_from}
-use Rattle.octal.specs.Lines.{parcel_text, parcels_text, parcel_at, parcel_line, bad_line, parcels_from, all_read, wrong, octal_of, first_bad}
+use Rattle.octal.specs.Lines.{parcel_text, parcels_text, parcel_at, parcel_line, bad_line, parcels_from, all_read, octal_by, octal_of, first_bad}
 use Rattle.octal.proofs.Digit.{both, range}
 use Rattle.octal.proofs.Line.{too_short}
 
@@ -72,57 +73,56 @@ module _ (text : List ℕ) where
       ap (λ (l : List ℕ). l ++ (10 ∷ [])) (digits_are 6 0 at 0 u.0) ∙ sym (part-last 6 at ∙ simp (eqb-true (byte_at text (at + 6)) 10 u.1))
 
   -- where no line is bad, the next is good, and so are those after it
-  good-next : (most at line : ℕ) → 0 < line → at < length text → bad_line (suc most) text at line ≡ 0
-      → (parcel_line text at ≡ true) × (bad_line most text (at + 7) (line + 1) ≡ 0)
+  good-next : (most at line : ℕ) → at < length text → bad_line (suc most) text at line ≡ None
+      → (parcel_line text at ≡ true) × (bad_line most text (at + 7) (line + 1) ≡ None)
   unfolding bad_line
-  good-next most at line some here e = go (parcel_line text at) refl (simp (lt-ltb at (length text) here) at e)
+  good-next most at line here e = go (parcel_line text at) refl (simp (lt-ltb at (length text) here) at e)
     where
-      go : (t : Bool) → parcel_line text at ≡ t → pick t (bad_line most text (at + 7) (line + 1)) line ≡ 0 → (parcel_line text at ≡ true)
-          × (bad_line most text (at + 7) (line + 1) ≡ 0)
+      go : (t : Bool) → parcel_line text at ≡ t → pick t (bad_line most text (at + 7) (line + 1)) (Some line) ≡ None → (parcel_line text at ≡ true)
+          × (bad_line most text (at + 7) (line + 1) ≡ None)
       go true f g = (f, g)
-      go false f g = absurd (omega arith)
+      go false f g = cc
 
-  good-some : (most at line : ℕ) → 0 < line → at < length text → bad_line most text at line ≡ 0 → 0 < most
+  good-some : (most at line : ℕ) → at < length text → bad_line most text at line ≡ None → 0 < most
   unfolding bad_line
-  good-some zero at line some here e = let f : line ≡ 0 = simp (lt-ltb at (length text) here) at e in absurd (omega arith)
-  good-some (suc most) at line some here e = omega arith
+  good-some zero at line here e = let f : ◌≡◌ {A = Option ℕ} (Some line) None = simp (lt-ltb at (length text) here) at e in cc
+  good-some (suc most) at line here e = omega arith
 
   -- nothing is left, where no whole line is
-  none_left : (most at line : ℕ) → 0 < line → bad_line most text at line ≡ 0 → length text < at + 7 → length text ≤ at
-  none_left zero at line some e l = go (ltb at (length text)) refl
+  none_left : (most at line : ℕ) → bad_line most text at line ≡ None → length text < at + 7 → length text ≤ at
+  none_left zero at line e l = go (ltb at (length text)) refl
     where
       go : (t : Bool) → ltb at (length text) ≡ t → length text ≤ at
-      go true f = let z = good-some zero at line some (ltb-true _ _ f) e in absurd (omega arith)
+      go true f = let z = good-some zero at line (ltb-true _ _ f) e in absurd (omega arith)
       go false f = ltb-false _ _ f
-  none_left (suc most) at line some e l = go (ltb at (length text)) refl
+  none_left (suc most) at line e l = go (ltb at (length text)) refl
     where
       go : (t : Bool) → ltb at (length text) ≡ t → length text ≤ at
       go true f =
-          let good = (good-next most at line some (ltb-true _ _ f) e).0 in
+          let good = (good-next most at line (ltb-true _ _ f) e).0 in
           let short = too_short text at l in
           let z : ◌≡◌ {A = ℕ} 0 1 = cc in
           absurd (omega arith)
       go false f = ltb-false _ _ f
 
   -- the text from there on is that of its parcels
-  same_from : (k most at line : ℕ) → 0 < line → bad_line most text at line ≡ 0 → at + 7 * k ≤ length text → length text < at + 7 * k + 7
+  same_from : (k most at line : ℕ) → bad_line most text at line ≡ None → at + 7 * k ≤ length text → length text < at + 7 * k + 7
       → parcels_text (parcels_from k text at) ≡ drop at text
   unfolding parcels_from parcels_text
-  same_from zero most at line some e h l = sym (drop_of_length-le text (none_left most at line some e (omega arith)))
-  same_from (suc k) zero at line some e h l = let z = good-some zero at line some (omega arith) e in absurd (omega arith)
-  same_from (suc k) (suc most) at line some e h l =
-      let good = good-next most at line some (omega arith) e in
-      let rest = same_from k most (at + 7) (line + 1) (omega arith) good.1 (omega arith) (omega arith) in
+  same_from zero most at line e h l = sym (drop_of_length-le text (none_left most at line e (omega arith)))
+  same_from (suc k) zero at line e h l = let z = good-some zero at line (omega arith) e in absurd (omega arith)
+  same_from (suc k) (suc most) at line e h l =
+      let good = good-next most at line (omega arith) e in
+      let rest = same_from k most (at + 7) (line + 1) good.1 (omega arith) (omega arith) in
       simp (line-is at good.0, rest) (part-rest 7 at (omega arith))
 
 -- a text that is read is the text of its parcels
 pub same_text : (text ps : List ℕ) → octal_of text ≡ all_read ps → parcels_text ps ≡ text
 unfolding octal_of
-same_text text ps e = go (eqb (first_bad text) 0) refl e
+same_text text ps e = go (first_bad text) refl e
   where
-    go : (t : Bool) → eqb (first_bad text) 0 ≡ t → pick t (all_read (parcels_from (length text / 7) text 0))
-        (wrong (first_bad text)) ≡ all_read ps → parcels_text ps ≡ text
-    go true f g =
+    go : (b : Option ℕ) → first_bad text ≡ b → octal_by text b ≡ all_read ps → parcels_text ps ≡ text
+    go None f g =
         let ps-are : parcels_from (length text / 7) text 0 ≡ ps = cc in
-        rw (← ps-are) (same_from text (length text / 7) (length text) 0 1 (omega arith) (eqb-true _ _ f) (omega arith) (omega arith))
-    go false f g = let z : ◌≡◌ {A = ℕ} 0 1 = cc in absurd (omega arith)
+        rw (← ps-are) (same_from text (length text / 7) (length text) 0 1 f (omega arith) (omega arith))
+    go (Some line) f g = cc

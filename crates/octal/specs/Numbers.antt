@@ -1,9 +1,7 @@
 -- Digits and numbers as they are read, and the addresses that arguments spell; bytes are ASCII. Assumes nothing.
-use Rattle.std.specs.Prelude.{ℕ, zero, suc, ◌+◌, ◌-◌, ◌*◌, Bool, true, ◌&&◌, List, length, leb, ltb}
+use Rattle.std.specs.Prelude.{ℕ, zero, suc, ◌+◌, ◌-◌, ◌*◌, Bool, true, ◌&&◌, List, length, leb, ltb, Option, Some, None}
 use Rattle.machine.specs.Word.{pick}
 use Rattle.text.specs.Digits.{byte_at}
-use Rattle.octal.specs.declared.Address.{Address}
-use Rattle.octal.specs.declared.Address.TheVariants.{At, NoAddress}
 
 -- from `low` on and below `past`
 unfoldable pub within : ℕ → ℕ → ℕ → Bool
@@ -28,8 +26,12 @@ unfoldable pub number_from : ℕ → ℕ → List ℕ → ℕ → ℕ → ℕ
 number_from base zero text at v = v
 number_from base (suc k) text at v = number_from base k text (at + 1) (v * base + digit_of (byte_at text at))
 
+-- the number of a text, if it is digits of a base and nothing else
+abbrev pub number_of : ℕ → List ℕ → Option ℕ
+number_of base s = pick (all_digits base (length s) s 0) (Some (number_from base (length s) s 0 0)) None
+
 -- an address: from 1 to `most` digits of a base and nothing else, their number below `limit`
-unfoldable pub address_of : ℕ → ℕ → ℕ → List ℕ → Address
+unfoldable pub address_of : ℕ → ℕ → ℕ → List ℕ → Option ℕ
 address_of base most limit s =
     let n = number_from base (length s) s 0 0 in
-    pick (ltb 0 (length s) && leb (length s) most && all_digits base (length s) s 0 && ltb n limit) (At n) NoAddress
+    pick (ltb 0 (length s) && leb (length s) most && all_digits base (length s) s 0 && ltb n limit) (Some n) None

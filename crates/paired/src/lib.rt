@@ -21,17 +21,14 @@ pub extern "C" fn pulxarrid_pair_run(
         ≡ after_pair report.old
         (pair_call (first_of pair.old) (second_of pair.old) (sharing mem.old) schedule.now) }
 {
-    let paired = xmp::pair_run(pair, mem, schedule);
-    let last = paired.last;
-    let n = numbers::of_last(last);
-    if n[0] != 0 {
-        return n[0];
+    match xmp::pair_run(pair, mem, schedule) {
+        Ok(paired) => {
+            let n = numbers::kind_of_last(paired.last);
+            let s = numbers::of_stray(paired.strays.first);
+            let t = numbers::of_stray(paired.strays.second);
+            *report = [n[0], n[1], paired.steps, s[0], s[1], t[0], t[1]];
+            0
+        }
+        Err(refusal) => refusal.into(),
     }
-    let strays = paired.strays;
-    let first = strays.first;
-    let second = strays.second;
-    let s = numbers::of_stray(first);
-    let t = numbers::of_stray(second);
-    *report = [n[1], n[2], paired.steps, s[0], s[1], t[0], t[1]];
-    0
 }

@@ -1,5 +1,6 @@
 -- What is proved of assembling and listing, by the definitions alone: a text is read exactly if it is a listing, and then as what
 -- it lists. Examples has the example of each row, and how many parcels are spelled. Assumes nothing.
+use Rattle.std.specs.Prelude.{Result, Ok, Err}
 use Prim.Native.Nat.{ℕ, ◌+◌, ◌<◌}
 use mathlib.Core.Path.{◌≡◌, refl, sym, ap, ◌∙◌}
 use mathlib.Core.Logic.{◌↔◌}
@@ -15,10 +16,9 @@ use Rattle.spelling.specs.Listing.{data_line, line_of, list_of, listed, room_lis
 use Rattle.spelling.specs.Candidate.{Guess, guess_of}
 use Rattle.spelling.specs.Assembling.{line_length, line_good, line_bad, read_line, Reading, all_read, wrong}
 use Rattle.spelling.specs.Assembling.{read_of, assembled_to, room_after, assembled, room_assembled, assembled_numbers}
-use Rattle.spelling.specs.declared.Assembled.{Assembled}
-use Rattle.spelling.specs.declared.Assembled.TheVariants.{Parcels, Overfull}
-use Rattle.spelling.specs.declared.Listed.{Listed}
-use Rattle.spelling.specs.declared.Listed.TheVariants.{Bytes, TooLong}
+use Rattle.spelling.specs.declared.ReadError.{ReadError}
+use Rattle.spelling.specs.declared.ReadError.TheVariants.{Overfull}
+use Rattle.spelling.specs.declared.TooLong.{TooLong}
 use Rattle.readback.proofs.Guessed.{line_first, line-two, line-one, data-guess}
 use Rattle.readback.proofs.Stands.{Below, Stands, last, Broken}
 use Rattle.readback.proofs.Good.{good-stands, stands_good, bad-stands, none-bad, data-early}
@@ -90,7 +90,7 @@ text-wrong text n =
 
 -- two results that a call may give are equal, with the room after it; and a refused call leaves the room as found
 module _ (text room : List ℕ) where
-  pub assembled-once : (r q : Assembled) (m n : List ℕ) → (r ≡ assembled text room) × (m ≡ room_assembled text room)
+  pub assembled-once : (r q : Result ℕ ReadError) (m n : List ℕ) → (r ≡ assembled text room) × (m ≡ room_assembled text room)
       → (q ≡ assembled text room) × (n ≡ room_assembled text room) → (r ≡ q) × (m ≡ n)
   assembled-once r q m n a b = (a.0 ∙ sym b.0, a.1 ∙ sym b.1)
 
@@ -98,7 +98,7 @@ module _ (text room : List ℕ) where
   unfolding assembled room_assembled
   assembled-kept refused = go (read_of text) refused
     where
-      fits : (ps : List ℕ) (b : Bool) → (get_or (assembled_numbers (pick b (Parcels (length ps)) Overfull)) 0 0 ≡ 0 → ⊥) → pick b (sets room 0 ps) room ≡ room
+      fits : (ps : List ℕ) (b : Bool) → (get_or (assembled_numbers (pick b (Ok (length ps)) (Err Overfull))) 0 0 ≡ 0 → ⊥) → pick b (sets room 0 ps) room ≡ room
       fits ps true h = absurd (h refl)
       fits ps false h = refl
 
@@ -107,7 +107,7 @@ module _ (text room : List ℕ) where
       go (wrong n) h = refl
 
 module _ (ps room : List ℕ) where
-  pub listed-once : (r q : Listed) (m n : List ℕ) → (r ≡ listed ps room) × (m ≡ room_listed ps room)
+  pub listed-once : (r q : Result ℕ TooLong) (m n : List ℕ) → (r ≡ listed ps room) × (m ≡ room_listed ps room)
       → (q ≡ listed ps room) × (n ≡ room_listed ps room) → (r ≡ q) × (m ≡ n)
   listed-once r q m n a b = (a.0 ∙ sym b.0, a.1 ∙ sym b.1)
 
@@ -115,6 +115,6 @@ module _ (ps room : List ℕ) where
   unfolding listed room_listed
   listed_kept refused = go (leb (length (list_of ps)) (length room)) refused
     where
-      go : (b : Bool) → (get_or (listed_numbers (pick b (Bytes (length (list_of ps))) TooLong)) 0 0 ≡ 0 → ⊥) → pick b (sets room 0 (list_of ps)) room ≡ room
+      go : (b : Bool) → (get_or (listed_numbers (pick b (Ok (length (list_of ps))) (Err (record {})))) 0 0 ≡ 0 → ⊥) → pick b (sets room 0 (list_of ps)) room ≡ room
       go true h = absurd (h refl)
       go false h = refl

@@ -1,37 +1,36 @@
-// The refusal numbers, each call checking its own in their order; 0 is none.
+// Refusals: each call checks its own, in the order of their numbers.
 #![tactic(auto)]
 
 ghost use Rattle.std.specs.Prelude.{◌≡◌, length};
 ghost use Rattle.machine.specs.Refusal.{memory_fits, state_fits, start_refusal, step_refusal, run_refusal, pair_refusal};
+ghost use Rattle.machine.specs.Call.{number_of};
 ghost use Rattle.machine.specs.Layout.{state_of, first_of, second_of};
 ghost use Rattle.refusal.specs.Joined.{joined};
 
 use access::{
     A, B, BDM, CLN, DBA, DLA, FPS, IBA, IFP, ILA, IOR, MM, P, PROCESSOR, PS, S, T, VL, WORDS, XA,
 };
+use machine::{Refusal, Words};
 
 // The numbers of a list or-ed together, so that one test does for all of them.
 fn joined(numbers: &[u64]) -> u64
     ensures { result ≡ joined 0 numbers.now }
 {
     let mut all: u64 = 0;
-    let mut e: usize = 0;
-    while e < numbers.len() {
-        all = all | numbers[e];
-        e += 1;
+    for n in numbers {
+        all = all | *n;
     }
     all
 }
 
-// The same of bytes.
+// The same of bytes. One function generic over the number would promise this of the type's own `|`, and each caller would have to be shown
+// what that is.
 fn joined_bytes(bytes: &[u8]) -> u8
     ensures { result ≡ joined 0 bytes.now }
 {
     let mut all: u8 = 0;
-    let mut e: usize = 0;
-    while e < bytes.len() {
-        all = all | bytes[e];
-        e += 1;
+    for b in bytes {
+        all = all | *b;
     }
     all
 }
@@ -44,8 +43,7 @@ fn memory_fits(words: usize) -> bool
 }
 
 // Whether every number fits its register.
-fn numbers_fit(r: &[u64]) -> bool
-    requires { length r.now ≡ 672 }
+fn numbers_fit(r: &Words) -> bool
     ensures { result ≡ state_fits (state_of r.now) }
 {
     let registers = ((joined(&r[A..S]) | joined(&r[B..T])) < 16777216)
@@ -60,70 +58,67 @@ fn numbers_fit(r: &[u64]) -> bool
 }
 
 // Of a start: 1, 2, 4.
-pub fn of_start(words: usize, package: u64, processor: u64) -> u64
-    ensures { result ≡ start_refusal words «package» processor }
+pub fn of_start(words: usize, package: u64, processor: u64) -> Result<(), Refusal>
+    ensures { number_of result ≡ start_refusal words «package» processor }
 {
     if !memory_fits(words) {
-        return 1;
+        return Err(Refusal::MemorySize);
     }
     if 255 < package {
-        return 2;
+        return Err(Refusal::PackageNumber);
     }
     if 1 < processor {
-        return 4;
+        return Err(Refusal::ProcessorNumber);
     }
-    0
+    Ok(())
 }
 
 // Of a turn and of a run: 1, 3, 4, 7.
-pub fn of_run(r: &[u64], words: usize, budget: u64) -> u64
-    requires { length r.now ≡ 672 }
-    ensures { result ≡ run_refusal words (state_of r.now) budget }
+pub fn of_run(r: &Words, words: usize, budget: u64) -> Result<(), Refusal>
+    ensures { number_of result ≡ run_refusal words (state_of r.now) budget }
 {
     if !memory_fits(words) {
-        return 1;
+        return Err(Refusal::MemorySize);
     }
     if 1000000 < budget {
-        return 3;
+        return Err(Refusal::Budget);
     }
     if 1 < r[PROCESSOR] {
-        return 4;
+        return Err(Refusal::ProcessorNumber);
     }
     if !numbers_fit(r) {
-        return 7;
+        return Err(Refusal::RegisterWidth);
     }
-    0
+    Ok(())
 }
 
 // Of a step, as of a run whose budget is not refused: 1, 4, 7.
-pub fn of_step(r: &[u64], words: usize) -> u64
-    requires { length r.now ≡ 672 }
-    ensures { result ≡ step_refusal words (state_of r.now) }
+pub fn of_step(r: &Words, words: usize) -> Result<(), Refusal>
+    ensures { number_of result ≡ step_refusal words (state_of r.now) }
 {
     of_run(r, words, 0)
 }
 
 // Of a pair run: 1, 4, 5, 6, 7.
-pub fn of_pair(pair: &[u64], words: usize, schedule: &[u8]) -> u64
-    requires { length pair.now ≡ 1344 }
-    ensures { result ≡ pair_refusal words (first_of pair.now) (second_of pair.now) schedule.now }
+pub fn of_pair(pair: &[u64; 1344], words: usize, schedule: &[u8]) -> Result<(), Refusal>
+    ensures { number_of result ≡ pair_refusal words (first_of pair.now) (second_of pair.now) schedule.now }
 {
-    let first = &pair[0..WORDS];
-    let second = &pair[WORDS..2 * WORDS];
+    let first = access::half(pair, 0);
+    let second = access::half(pair, WORDS);
     if !memory_fits(words) {
-        return 1;
+        return Err(Refusal::MemorySize);
     }
     if !((first[PROCESSOR] == 0) & (second[PROCESSOR] == 1)) {
-        return 4;
+        return Err(Refusal::ProcessorNumber);
     }
     if 65536 < schedule.len() {
-        return 5;
+        return Err(Refusal::ScheduleLength);
     }
     if 1 < joined_bytes(schedule) {
-        return 6;
+        return Err(Refusal::ScheduleByte);
     }
     if !(numbers_fit(first) & numbers_fit(second)) {
-        return 7;
+        return Err(Refusal::RegisterWidth);
     }
-    0
+    Ok(())
 }

@@ -11,15 +11,15 @@ ghost use Rattle.machine.specs.Layout.{frame_of};
 ghost use Rattle.access.specs.Window.{Reaches};
 ghost use Rattle.access.specs.Executed.{Executes, Alone};
 
-use machine::{Fetched, ParcelAddr, Reach, Work};
+use machine::{ParcelAddr, Reach, Words, Work};
 
 // 040ijkm: Si becomes jkm. 041ijkm: its complement in 64 bits.
-pub fn enter(r: &mut [u64], mem: &[u64], f: Reach, p: ParcelAddr, x: u64, complement: bool) -> Work
-    requires whole { (length r.old ≡ 672) × (x / 512 ≡ pick complement 0o041 0o040) }
+pub fn enter(r: &mut Words, mem: &[u64], f: Reach, p: ParcelAddr, x: u64, complement: bool) -> Work
+    requires coded { x / 512 ≡ pick complement 0o041 0o040 }
     requires reaches { Reaches (frame_of r.old) f (length mem.now) }
     ensures { Executes result r.old r.new mem.now mem.now p.0 x }
 {
-    let Fetched::Parcel(m) = access::fetch(mem, f, access::on(p, 1)) else {
+    let Some(m) = access::fetch(mem, f, access::on(p, 1)) else {
         return access::no_parcel(r);
     };
     let y = word::either(access::jkm(x, m), complement);
@@ -28,32 +28,32 @@ pub fn enter(r: &mut [u64], mem: &[u64], f: Reach, p: ParcelAddr, x: u64, comple
 }
 
 // 042ijk: Si becomes 64 - jk ones at the right.
-pub fn ones_right(r: &mut [u64], x: u64) -> Work
-    requires { (length r.old ≡ 672) × (x / 512 ≡ 0o042) }
+pub fn ones_right(r: &mut Words, x: u64) -> Work
+    requires { x / 512 ≡ 0o042 }
     ensures { Alone result r.old r.new x }
 {
     access::put_s(r, x, word::ones_right(x))
 }
 
 // 043ijk: Si becomes jk ones at the left.
-pub fn ones_left(r: &mut [u64], x: u64) -> Work
-    requires { (length r.old ≡ 672) × (x / 512 ≡ 0o043) }
+pub fn ones_left(r: &mut Words, x: u64) -> Work
+    requires { x / 512 ≡ 0o043 }
     ensures { Alone result r.old r.new x }
 {
     access::put_s(r, x, word::ones_left(x))
 }
 
 // 060ijk: Si becomes Sj + Sk.
-pub fn sum(r: &mut [u64], x: u64) -> Work
-    requires { (length r.old ≡ 672) × (x / 512 ≡ 0o060) }
+pub fn sum(r: &mut Words, x: u64) -> Work
+    requires { x / 512 ≡ 0o060 }
     ensures { Alone result r.old r.new x }
 {
     access::put_s(r, x, word::sum(access::s_j(r, x), access::s_k(r, x)))
 }
 
 // 061ijk: Si becomes Sj - Sk.
-pub fn difference(r: &mut [u64], x: u64) -> Work
-    requires { (length r.old ≡ 672) × (x / 512 ≡ 0o061) }
+pub fn difference(r: &mut Words, x: u64) -> Work
+    requires { x / 512 ≡ 0o061 }
     ensures { Alone result r.old r.new x }
 {
     access::put_s(r, x, word::difference(access::s_j(r, x), access::s_k(r, x)))

@@ -5,11 +5,11 @@ ghost use Rattle.machine.specs.Work.{status_of};
 ghost use Rattle.machine.specs.Layout.{registers_of, frame_of};
 ghost use Rattle.access.specs.Executed.{Alone, FrameOk, ControlOk};
 
-use machine::Work;
+use machine::{Words, Work};
 
 // 071i0k, 071i1k: Si becomes Ak, filled up with zeros, or with its sign.
-pub fn from_a(r: &mut [u64], x: u64) -> Work
-    requires { (length r.old ≡ 672) × (x / 512 ≡ 0o071) }
+pub fn from_a(r: &mut Words, x: u64) -> Work
+    requires { x / 512 ≡ 0o071 }
     ensures { Alone result r.old r.new x }
 {
     match access::j(x) {
@@ -45,8 +45,8 @@ fn status_of(ps: u64, fps: u64, ifp: u64, ior: u64, bdm: u64, cln: u64, own: u64
 }
 
 // The status word of a processor.
-fn status(r: &[u64]) -> u64
-    requires whole { length r.now ≡ 672 }
+#[tactic(auto, unfolding(machine::specs::Layout::frame_of, machine::specs::Layout::registers_of, machine::specs::Work::status_of))]
+fn status(r: &Words) -> u64
     requires frame_ok { FrameOk (frame_of r.now) × ControlOk (registers_of r.now) × ((frame_of r.now).processor < 2) }
     ensures { result ≡ status_of (frame_of r.now) (registers_of r.now) }
 {
@@ -64,8 +64,8 @@ fn status(r: &[u64]) -> u64
 }
 
 // 073i00, 073i01: Si becomes VM, or the status word.
-pub fn read_control(r: &mut [u64], x: u64) -> Work
-    requires whole { (length r.old ≡ 672) × (x / 512 ≡ 0o073) }
+pub fn read_control(r: &mut Words, x: u64) -> Work
+    requires coded { x / 512 ≡ 0o073 }
     requires frame_ok { FrameOk (frame_of r.old) × ControlOk (registers_of r.old) × ((frame_of r.old).processor < 2) }
     ensures { Alone result r.old r.new x }
 {
@@ -77,16 +77,16 @@ pub fn read_control(r: &mut [u64], x: u64) -> Work
 }
 
 // 074ijk: Si becomes Tjk.
-pub fn from_t(r: &mut [u64], x: u64) -> Work
-    requires { (length r.old ≡ 672) × (x / 512 ≡ 0o074) }
+pub fn from_t(r: &mut Words, x: u64) -> Work
+    requires { x / 512 ≡ 0o074 }
     ensures { Alone result r.old r.new x }
 {
     access::put_s(r, x, access::t_jk(r, x))
 }
 
 // 075ijk: Tjk becomes Si.
-pub fn to_t(r: &mut [u64], x: u64) -> Work
-    requires { (length r.old ≡ 672) × (x / 512 ≡ 0o075) }
+pub fn to_t(r: &mut Words, x: u64) -> Work
+    requires { x / 512 ≡ 0o075 }
     ensures { Alone result r.old r.new x }
 {
     access::set_t(r, access::jk(x), access::s_i(r, x));
@@ -94,8 +94,8 @@ pub fn to_t(r: &mut [u64], x: u64) -> Work
 }
 
 // 076ijk: Si becomes element Ak of Vj, Ak modulo 64.
-pub fn from_v(r: &mut [u64], x: u64) -> Work
-    requires { (length r.old ≡ 672) × (x / 512 ≡ 0o076) }
+pub fn from_v(r: &mut Words, x: u64) -> Work
+    requires { x / 512 ≡ 0o076 }
     ensures { Alone result r.old r.new x }
 {
     let e = (access::a_k(r, x) % 64) as usize;
@@ -103,8 +103,8 @@ pub fn from_v(r: &mut [u64], x: u64) -> Work
 }
 
 // 077ijk: element Ak of Vi, Ak modulo 64, becomes Sj.
-pub fn to_v(r: &mut [u64], x: u64) -> Work
-    requires { (length r.old ≡ 672) × (x / 512 ≡ 0o077) }
+pub fn to_v(r: &mut Words, x: u64) -> Work
+    requires { x / 512 ≡ 0o077 }
     ensures { Alone result r.old r.new x }
 {
     let e = (access::a_k(r, x) % 64) as usize;

@@ -1,12 +1,12 @@
 -- Assembling a text: line by line, each the line of an instruction or of data. Assumes nothing.
-use Rattle.std.specs.Prelude.{ℕ, zero, suc, ◌+◌, Bool, true, false, ◌&&◌, List, [], ◌∷◌, ◌++◌, length, drop, eqb, leb}
+use Rattle.std.specs.Prelude.{ℕ, zero, suc, ◌+◌, Bool, true, false, ◌&&◌, List, [], ◌∷◌, ◌++◌, length, drop, eqb, leb, Result, Ok, Err}
 use Rattle.std.proofs.lemmas.List.Edits.{sets}
 use Rattle.machine.specs.Word.{pick}
 use Rattle.spelling.specs.Spelling.{second}
 use Rattle.spelling.specs.Listing.{data_line, line_of}
 use Rattle.spelling.specs.Candidate.{Guess, guess_of}
-use Rattle.spelling.specs.declared.Assembled.{Assembled}
-use Rattle.spelling.specs.declared.Assembled.TheVariants.{Parcels, BadLine, Overfull}
+use Rattle.spelling.specs.declared.ReadError.{ReadError}
+use Rattle.spelling.specs.declared.ReadError.TheVariants.{BadLine, Overfull}
 
 -- a text begins with a line
 unfoldable pub begins : List ℕ → List ℕ → Bool
@@ -70,22 +70,27 @@ unfoldable pub read_of : List ℕ → Reading
 read_of s = read_from (length s) s
 
 -- what a call answers, and the room after it: the parcels, and what lies past them as it was; refused, as found
-abbrev pub assembled_to : List ℕ → Reading → Assembled
-assembled_to room (all_read ps) = pick (leb (length ps) (length room)) (Parcels (length ps)) Overfull
-assembled_to room (wrong n) = BadLine (n + 1)
+abbrev pub assembled_to : List ℕ → Reading → Result ℕ ReadError
+assembled_to room (all_read ps) = pick (leb (length ps) (length room)) (Ok (length ps)) (Err Overfull)
+assembled_to room (wrong n) = Err (BadLine (n + 1))
 
 abbrev pub room_after : List ℕ → Reading → List ℕ
 room_after room (all_read ps) = pick (leb (length ps) (length room)) (sets room 0 ps) room
 room_after room (wrong n) = room
 
-unfoldable pub assembled : List ℕ → List ℕ → Assembled
+unfoldable pub assembled : List ℕ → List ℕ → Result ℕ ReadError
 assembled s room = assembled_to room (read_of s)
 
 unfoldable pub room_assembled : List ℕ → List ℕ → List ℕ
 room_assembled s room = room_after room (read_of s)
 
+-- the number of a refusal
+abbrev pub refusal_number : ReadError → ℕ
+refusal_number (BadLine line) = 10
+refusal_number Overfull = 18
+
 -- the numbers of an answer: that of a refusal, 0 for none, and the parcels or the line
-abbrev pub assembled_numbers : Assembled → List ℕ
-assembled_numbers (Parcels n) = 0 ∷ n ∷ []
-assembled_numbers (BadLine line) = 10 ∷ line ∷ []
-assembled_numbers Overfull = 18 ∷ []
+abbrev pub assembled_numbers : Result ℕ ReadError → List ℕ
+assembled_numbers (Ok n) = 0 ∷ n ∷ []
+assembled_numbers (Err (BadLine line)) = refusal_number (BadLine line) ∷ line ∷ []
+assembled_numbers (Err Overfull) = refusal_number Overfull ∷ []

@@ -1,12 +1,11 @@
 -- The listing of parcels: each instruction's line, ended by a newline. Assumes nothing.
-use Rattle.std.specs.Prelude.{ℕ, List, [], ◌∷◌, ◌++◌, length, leb}
+use Rattle.std.specs.Prelude.{ℕ, List, [], ◌∷◌, ◌++◌, length, leb, Result, Ok, Err}
 use Rattle.std.proofs.lemmas.List.Edits.{sets}
 use Rattle.machine.specs.Word.{pick}
 use Rattle.text.specs.Digits.{digits}
 use Rattle.spelling.specs.Words.{signs, text_of}
 use Rattle.spelling.specs.Spelling.{words_of, second}
-use Rattle.spelling.specs.declared.Listed.{Listed}
-use Rattle.spelling.specs.declared.Listed.TheVariants.{Bytes, TooLong}
+use Rattle.spelling.specs.declared.TooLong.{TooLong}
 
 -- a parcel as data
 unfoldable pub data_line : ℕ → List ℕ
@@ -38,13 +37,13 @@ parcels_in (x ∷ []) = 1
 parcels_in (x ∷ m ∷ ps) = pick (second x) 2 1
 
 -- what a call answers, and the room after it: the listing, and what lies past it as it was; too long, as found
-unfoldable pub listed : List ℕ → List ℕ → Listed
-listed ps room = pick (leb (length (list_of ps)) (length room)) (Bytes (length (list_of ps))) TooLong
+unfoldable pub listed : List ℕ → List ℕ → Result ℕ TooLong
+listed ps room = pick (leb (length (list_of ps)) (length room)) (Ok (length (list_of ps))) (Err (record {}))
 
 unfoldable pub room_listed : List ℕ → List ℕ → List ℕ
 room_listed ps room = pick (leb (length (list_of ps)) (length room)) (sets room 0 (list_of ps)) room
 
 -- the numbers of an answer: that of a refusal, 0 for none, and the bytes
-abbrev pub listed_numbers : Listed → List ℕ
-listed_numbers (Bytes n) = 0 ∷ n ∷ []
-listed_numbers TooLong = 18 ∷ []
+abbrev pub listed_numbers : Result ℕ TooLong → List ℕ
+listed_numbers (Ok n) = 0 ∷ n ∷ []
+listed_numbers (Err e) = 18 ∷ []

@@ -1,5 +1,8 @@
-// CAL: the operands of an instruction, and what assembling and listing answer.
+// CAL: the operands of an instruction, and why a text or a listing is refused.
 #![tactic(auto)]
+
+ghost use Rattle.std.specs.Prelude.{◌≡◌};
+ghost use Rattle.spelling.specs.Assembling.{refusal_number};
 
 // An operand: a register by its letter and its number, wide if its name has two octal digits; a constant; or an indexed memory
 // place, `exp,Ah`.
@@ -20,17 +23,25 @@ pub enum Instruction {
     OfFour(usize, Operand, Operand, Operand, Operand),
 }
 
-// What a text assembled to: so many parcels; or its first bad line; or more parcels than there is room for.
-#[derive(Clone, Copy)]
-pub enum Assembled {
-    Parcels(usize),
+// Why a text stands for no parcels: its first bad line, counted from 1; or there are more than there is room for.
+#[derive(Clone, Copy, Debug, PartialEq, Eq)]
+pub enum ReadError {
     BadLine(usize),
     Overfull,
 }
 
-// What parcels were listed as: so many bytes, or more than there is room for.
-#[derive(Clone, Copy)]
-pub enum Listed {
-    Bytes(usize),
-    TooLong,
+impl ReadError {
+    // The number of its refusal.
+    pub fn number(self) -> u64
+        ensures { result ≡ refusal_number self }
+    {
+        match self {
+            ReadError::BadLine(_) => 10,
+            ReadError::Overfull => 18,
+        }
+    }
 }
+
+// The listing of parcels is longer than the room for it.
+#[derive(Clone, Copy, Debug, PartialEq, Eq)]
+pub struct TooLong;

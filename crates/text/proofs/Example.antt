@@ -3,18 +3,18 @@
 use mathlib.Core.Path.{◌≡◌, refl}
 use mathlib.Core.List.{List, [], ◌∷◌, ◌++◌}
 use Prim.Native.Nat.{ℕ}
+use Rattle.std.specs.Prelude.{Some, None}
 use Rattle.machine.specs.declared.Ending.TheVariants.{Budget}
 use Rattle.machine.specs.declared.Cause.TheVariants.{BelowBase, OverLimit, BeyondMemory}
-use Rattle.machine.specs.declared.Stray.TheVariants.{Clean, First}
 use Rattle.machine.specs.State.{State, addr}
 use Rattle.machine.specs.Run.{zeros}
 use Rattle.text.specs.Names.{name_steps, name_changed}
-use Rattle.text.specs.Digits.{is_decimal, is_letter, is_hex, hex_of, all_hex, hex_from, glyph_of, digits, places_of, width_of, shown}
+use Rattle.text.specs.Digits.{is_decimal, is_letter, hex_digit, all_hex, hex_from, glyph_of, digits, places_of, width_of, shown}
 use Rattle.text.specs.Sheet.{starts_at, ends_at, decimal_from, number_at, up_to, head_at, framed}
-use Rattle.text.specs.Sheet.{word_line, bad_line, after_words, after_steps, check_of, sheet_from, sheet_of}
+use Rattle.text.specs.Sheet.{word_line, bad_line, bad, after_words, after_steps, check_of, sheet_from, sheet_of}
 use Rattle.text.specs.Report.{after_commas, commas, decimal_line, stop_line, cause_name, outside_line, control_lines, field_lines}
 use Rattle.text.specs.Report.{program_lines, register_lines, state_lines, change, change_text}
-use Rattle.text.specs.declared.Sheet.TheVariants.{Good, Bad}
+use Rattle.std.proofs.Common.{Ok}
 
 -- the sheet; the third word's address ends in the digit d
 abbrev sheet : ℕ → List ℕ
@@ -35,13 +35,13 @@ sheet d =
     ∷ 48 ∷ 52 ∷ 48 ∷ 48 ∷ 61 ∷ 50 ∷ 52 ∷ 52 ∷ 53 ∷ 50 ∷ 52 ∷ 56 ∷ 55 ∷ 51 ∷ 48 ∷ 67 ∷ 65 ∷ 57 ∷ 48 ∷ 67 ∷ 48 ∷ 10
     ∷ []
 
-says-4 : sheet_of (sheet 52) ≡ Good 4
-unfolding is_decimal is_letter is_hex hex_of all_hex hex_from starts_at ends_at decimal_from number_at up_to head_at framed word_line bad_line after_words
+says-4 : sheet_of (sheet 52) ≡ Ok 4
+unfolding is_decimal is_letter hex_digit all_hex hex_from starts_at ends_at decimal_from number_at up_to head_at framed word_line bad_line after_words
     after_steps check_of sheet_from sheet_of
 says-4 = refl
 
-bad-line-5 : sheet_of (sheet 50) ≡ Bad 5
-unfolding is_decimal is_letter is_hex hex_of all_hex hex_from starts_at ends_at decimal_from number_at up_to head_at framed word_line bad_line after_words
+bad-line-5 : sheet_of (sheet 50) ≡ bad 5
+unfolding is_decimal is_letter hex_digit all_hex hex_from starts_at ends_at decimal_from number_at up_to head_at framed word_line bad_line after_words
     after_steps check_of sheet_from sheet_of
 bad-line-5 = refl
 
@@ -98,22 +98,22 @@ printed =
     ∷ 115 ∷ 61 ∷ 48 ∷ 44 ∷ 48 ∷ 44 ∷ 48 ∷ 44 ∷ 48 ∷ 44 ∷ 48 ∷ 44 ∷ 48 ∷ 44 ∷ 48 ∷ 44 ∷ 48 ∷ 10
     ∷ []
 
-reported : stop_line Budget ++ outside_line Clean ++ decimal_line name_steps 4 ++ state_lines end ≡ printed
+reported : stop_line (Ok Budget) ++ outside_line None ++ decimal_line name_steps 4 ++ state_lines end ≡ printed
 unfolding glyph_of digits places_of width_of shown after_commas commas stop_line outside_line control_lines field_lines program_lines register_lines state_lines zeros
 reported = refl
 
 -- outside=below,0
-outside_below : outside_line (First BelowBase 0) ≡ 111 ∷ 117 ∷ 116 ∷ 115 ∷ 105 ∷ 100 ∷ 101 ∷ 61 ∷ 98 ∷ 101 ∷ 108 ∷ 111 ∷ 119 ∷ 44 ∷ 48 ∷ 10 ∷ []
+outside_below : outside_line (Some (record { cause = BelowBase; element = 0 })) ≡ 111 ∷ 117 ∷ 116 ∷ 115 ∷ 105 ∷ 100 ∷ 101 ∷ 61 ∷ 98 ∷ 101 ∷ 108 ∷ 111 ∷ 119 ∷ 44 ∷ 48 ∷ 10 ∷ []
 unfolding glyph_of digits places_of width_of shown cause_name outside_line
 outside_below = refl
 
 -- outside=limit,63
-outside-limit : outside_line (First OverLimit 63) ≡ 111 ∷ 117 ∷ 116 ∷ 115 ∷ 105 ∷ 100 ∷ 101 ∷ 61 ∷ 108 ∷ 105 ∷ 109 ∷ 105 ∷ 116 ∷ 44 ∷ 54 ∷ 51 ∷ 10 ∷ []
+outside-limit : outside_line (Some (record { cause = OverLimit; element = 63 })) ≡ 111 ∷ 117 ∷ 116 ∷ 115 ∷ 105 ∷ 100 ∷ 101 ∷ 61 ∷ 108 ∷ 105 ∷ 109 ∷ 105 ∷ 116 ∷ 44 ∷ 54 ∷ 51 ∷ 10 ∷ []
 unfolding glyph_of digits places_of width_of shown cause_name outside_line
 outside-limit = refl
 
 -- outside=memory,10
-outside-memory : outside_line (First BeyondMemory 10) ≡ 111 ∷ 117 ∷ 116 ∷ 115 ∷ 105 ∷ 100 ∷ 101 ∷ 61 ∷ 109 ∷ 101 ∷ 109 ∷ 111 ∷ 114 ∷ 121 ∷ 44 ∷ 49 ∷ 48 ∷ 10 ∷ []
+outside-memory : outside_line (Some (record { cause = BeyondMemory; element = 10 })) ≡ 111 ∷ 117 ∷ 116 ∷ 115 ∷ 105 ∷ 100 ∷ 101 ∷ 61 ∷ 109 ∷ 101 ∷ 109 ∷ 111 ∷ 114 ∷ 121 ∷ 44 ∷ 49 ∷ 48 ∷ 10 ∷ []
 unfolding glyph_of digits places_of width_of shown cause_name outside_line
 outside-memory = refl
 

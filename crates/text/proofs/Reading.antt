@@ -1,33 +1,46 @@
 -- Laws of the reader's definitions: what one turn of a loop, and each way out of it, says. Assumes nothing.
 use mathlib.Core.Path.{◌≡◌, refl, ◌∙◌}
-use mathlib.Core.List.{List}
+use mathlib.Core.List.{List, [], ◌∷◌}
 use mathlib.Core.Bool.{Bool, true, false, ◌&&◌}
 use Prim.Native.Nat.{ℕ, zero, suc, ◌+◌, ◌*◌, ◌-◌, ◌^◌, ◌≤◌, ◌<◌}
 use native.Mathlib.Nat.{pow-suc, lt_of_lt_of_le, pow-le-pow_right, mul-le-mul_right}
 use native.Mathlib.Numerals.{add-one}
 use native.Mathlib.Omega.{arith}
-use lib.ListN.{length, get_or, drop, set}
-use lib.Seq.{drop-cons, drop-length}
-use lib.Dec.{leb, ltb}
-use borrow.Author.Tests.{eq-eqb, ne_eqb, leb-true, ltb-true}
-use Rattle.text.specs.Digits.{byte_at, is_decimal, is_letter, is_hex, hex_of, all_hex, hex_from}
+use lib.ListN.{set}
+use lib.Dec.{eqb, leb, ltb}
+use borrow.Author.Tests.{ltb-true}
+use Rattle.text.specs.Digits.{byte_at, is_decimal, is_letter, hex_digit, is_hex, hex_of, all_hex, hex_from}
 use Rattle.text.specs.Sheet.{starts_at, ends_at, decimal_from, framed, word_line, bad_line, stored}
 use Rattle.text.specs.Bounds.{HeadFits}
 use Rattle.text.specs.declared.Head.{Head}
-use Rattle.text.specs.declared.Head.TheVariants.{Says, Wrong}
+use Rattle.std.proofs.Common.{◌⊎◌, Option, Some, None, unwrap_or}
+use Rattle.std.specs.List.{list_all, enumerate_from}
+use Rattle.std.proofs.lemmas.Grind.{common_steps}
+use Rattle.machine.specs.Word.{pick}
 
--- what both of two tests say
-both : (a b : Bool) → a && b ≡ true → (a ≡ true) × (b ≡ true)
-both true b e = (refl, e)
-both false b e = let z : ◌≡◌ {A = ℕ} 0 1 = cc in absurd (omega arith)
-
-pub decimal-range : (b : ℕ) → is_decimal b ≡ true → (48 ≤ b) × (b < 58)
+-- a decimal digit, and another byte
+pub decimal-yes : (b : ℕ) → 48 ≤ b → b ≤ 57 → is_decimal b ≡ true
 unfolding is_decimal
-decimal-range b e = let t = both (leb 48 b) (ltb b 58) e in (leb-true _ _ t.0, ltb-true _ _ t.1)
+decimal-yes b l h = grind (arith, common_steps)
 
-pub letter-range : (b : ℕ) → is_letter b ≡ true → (65 ≤ b) × (b < 71)
-unfolding is_letter
-letter-range b e = let t = both (leb 65 b) (ltb b 71) e in (leb-true _ _ t.0, ltb-true _ _ t.1)
+pub decimal-no : (b : ℕ) → (b < 48) ⊎ (57 < b) → is_decimal b ≡ false
+unfolding is_decimal
+decimal-no b h = grind (arith, common_steps)
+
+-- a digit is below 16, and so is what another byte counts as
+pub hex-below : (b : ℕ) → hex_of b < 16
+unfolding hex_digit is_decimal is_letter
+hex-below b = go (leb 48 b) refl (ltb b 58) refl (leb 65 b) refl (ltb b 71) refl
+  where
+    go : (p : Bool) → leb 48 b ≡ p → (q : Bool) → ltb b 58 ≡ q → (r : Bool) → leb 65 b ≡ r → (t : Bool) → ltb b 71 ≡ t
+        → unwrap_or (pick (p && q) (Some (b - 48)) (pick (r && t) (Some (b - 55)) None)) 0 < 16
+    go true e true f r g t h = omega (arith, ltb-true b 58 f)
+    go true e false f true g true h = omega (arith, ltb-true b 71 h)
+    go true e false f true g false h = omega arith
+    go true e false f false g t h = omega arith
+    go false e q f true g true h = omega (arith, ltb-true b 71 h)
+    go false e q f true g false h = omega arith
+    go false e q f false g t h = omega arith
 
 -- what is left, where something is
 pub left-suc : (n d : ℕ) → d < n → n - d ≡ suc (n - (d + 1))
@@ -53,9 +66,10 @@ module _ (text : List ℕ) (at n d : ℕ) where
     unfolding all_hex
     all-not bad = simp (left-suc n d more, ← e, bad)
 
-    pub decimal-next : (v : ℕ) → is_decimal b ≡ true → decimal_from (n - d) text (at + d) v ≡ decimal_from (n - (d + 1)) text (at + (d + 1)) (v * 10 + (b - 48))
+    pub decimal-next : (v x : ℕ) → is_decimal b ≡ true → x ≡ b - 48
+        → decimal_from (n - d) text (at + d) v ≡ decimal_from (n - (d + 1)) text (at + (d + 1)) (v * 10 + x)
     unfolding decimal_from
-    decimal-next v good = simp (left-suc n d more, ← e, good, onward)
+    decimal-next v x good f = simp (left-suc n d more, ← e, good, onward, f)
 
     pub decimal-stop : (v : ℕ) → is_decimal b ≡ false → decimal_from (n - d) text (at + d) v ≡ ends_at text (at + d) v
     unfolding decimal_from
@@ -73,9 +87,9 @@ module _ (text : List ℕ) (at n d : ℕ) where
     unfolding all_hex
     all_done = simp none_left
 
-    pub decimal-done : (v : ℕ) → decimal_from (n - d) text (at + d) v ≡ ends_at text (at + d) v
+    pub decimal-done : d ≤ n → (v : ℕ) → decimal_from (n - d) text (at + d) v ≡ ends_at text (at + n) v
     unfolding decimal_from
-    decimal-done v = simp none_left
+    decimal-done all v = let e : d ≡ n = omega arith in rw (none_left, e)
 
 -- a number of d digits is below b ^ d, and one digit more keeps it so
 pub digit-more : (b v x d : ℕ) → v < b ^ d → x < b → v * b + x < b ^ (d + 1)
@@ -101,7 +115,7 @@ module _ (text : List ℕ) (at low : ℕ) where
 
 -- k lines of words, where some are left
 module _ (text : List ℕ) (at low line : ℕ) where
-  pub line-bad : (k : ℕ) → 0 < k → word_line text at low ≡ false → bad_line k text at low line ≡ line
+  pub line-bad : (k : ℕ) → 0 < k → word_line text at low ≡ false → bad_line k text at low line ≡ Some line
   unfolding bad_line
   line-bad zero some e = absurd (omega arith)
   line-bad (suc k) some e = simp e
@@ -112,34 +126,24 @@ module _ (text : List ℕ) (at low line : ℕ) where
   line-good zero a some e f = absurd (omega arith)
   line-good (suc k) a some e f = let one : suc k - 1 ≡ k = omega arith in simp (f, e, one)
 
-pub stored_next : (text mem : List ℕ) (at k : ℕ) → 0 < k
-    → stored k text at mem ≡ stored (k - 1) text (at + 22) (set mem (hex_from 4 text at 0) (hex_from 16 text (at + 5) 0))
-unfolding stored
-stored_next text mem at zero some = absurd (omega arith)
-stored_next text mem at (suc k) some = let one : suc k - 1 ≡ k = omega arith in simp one
+-- n lines of words from `start` on, of which k are stored
+module _ (text mem : List ℕ) (start n k : ℕ) where
+  pub stored_next : k < n → stored (n - k) text (start + 22 * k) mem
+      ≡ stored (n - (k + 1)) text (start + 22 * (k + 1)) (set mem (hex_from 4 text (start + 22 * k) 0) (hex_from 16 text (start + 22 * k + 5) 0))
+  unfolding stored
+  stored_next more = let on : start + 22 * k + 22 ≡ start + 22 * (k + 1) = omega arith in rw (left-suc n k more, ← on)
 
-pub stored-done : (text mem : List ℕ) (at k : ℕ) → k ≤ 0 → stored k text at mem ≡ mem
-unfolding stored
-stored-done text mem at zero none = refl
-stored-done text mem at (suc k) none = absurd (omega arith)
+  pub stored-done : n ≤ k → stored (n - k) text (start + 22 * k) mem ≡ mem
+  unfolding stored
+  stored-done none = let e : n - k ≡ 0 = omega arith in simp e
 
--- a name, where i bytes of it are passed
-module _ (text name : List ℕ) (at i : ℕ) (h : i < length name) where
-  pub starts-next : byte_at text (at + i) ≡ get_or name i 0 → starts_at text (at + i) (drop i name) ≡ starts_at text (at + (i + 1)) (drop (i + 1) name)
-  unfolding starts_at
-  starts-next e =
-      let q : at + i + 1 ≡ at + (i + 1) = omega arith in
-      simp (drop-cons name i 0 h, eq-eqb _ _ e, q, add-one i)
-
-  pub starts-not : (byte_at text (at + i) ≡ get_or name i 0 → ⊥) → starts_at text (at + i) (drop i name) ≡ false
-  unfolding starts_at
-  starts-not e = simp (drop-cons name i 0 h, ne_eqb _ _ e)
-
-pub starts-done : (text name : List ℕ) (at i : ℕ) → i ≡ length name → starts_at text at (drop i name) ≡ true
+-- a name stands in a text if each of its bytes does
+pub starts_all : (text name : List ℕ) (at n : ℕ) → list_all (λ (p : ℕ × ℕ). eqb (byte_at text (at + p.0)) p.1) (enumerate_from n name) ≡ starts_at text (at + n) name
 unfolding starts_at
-starts-done text name at i e = simp (e, drop-length name)
+starts_all text [] at n = refl
+starts_all text (b ∷ name) at n = let on : at + (n + 1) ≡ at + n + 1 = omega arith in rw (starts_all text name at (n + 1), on)
 
 -- what fits, fits in more
-pub fits_more : (m l most limit : ℕ) (r : Head) → HeadFits m l r → m ≤ most → l ≤ limit → HeadFits most limit r
-fits_more m l most limit (Says v next) h p q = (omega arith, omega arith)
-fits_more m l most limit Wrong h p q = tt
+pub fits_more : (m l most limit : ℕ) (r : Option Head) → HeadFits m l r → m ≤ most → l ≤ limit → HeadFits most limit r
+fits_more m l most limit (Some head) h p q = (omega arith, omega arith)
+fits_more m l most limit None h p q = tt

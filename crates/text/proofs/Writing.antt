@@ -10,6 +10,10 @@ use lib.Seq.{sets, set_comm, drop-cons, drop-length}
 use borrow.Author.Tests.{lt-ltb, le-ltb}
 use Rattle.text.specs.Digits.{glyph_of, digits, places_of, width_of, shown}
 use Rattle.text.specs.Report.{after_commas, commas, changes, change, change_text, changed_words, Wrote}
+use Rattle.std.proofs.Common.{Bool, true, false, not, eqb, take, max}
+use Rattle.std.specs.Int.{from_bool}
+use Rattle.machine.specs.Word.{pick}
+use Rattle.std.proofs.lemmas.Grind.{common_steps}
 use Rattle.text.proofs.Reading.{left-suc}
 
 pub sets-append : (l : List ℕ) (i : ℕ) (xs ys : List ℕ) → sets l i (xs ++ ys) ≡ sets (sets l i xs) (i + length xs) ys
@@ -36,15 +40,12 @@ wrote_none d at = record { bytes = refl; place = sym (add-zero at) }
 pub wrote_as : {d m : List ℕ} {at r : ℕ} {xs ys : List ℕ} → xs ≡ ys → Wrote d at ys m r → Wrote d at xs m r
 wrote_as {d} {m} {at} {r} e w = subst (λ (zs : List ℕ). Wrote d at zs m r) (sym e) w
 
--- a text of bytes: one more, and none left
+-- a text of bytes: one more
 pub text-next : {d m k : List ℕ} {q : ℕ} (s : List ℕ) (at i : ℕ) → i < length s → m ≡ set d (at + i) (get_or s i 0)
     → Wrote m (at + (i + 1)) (drop (i + 1) s) k q → Wrote d (at + i) (drop i s) k q
 text-next {d} {m} {k} {q} s at i h e w =
     let on : at + (i + 1) ≡ at + i + 1 = omega arith in
     wrote_as (rw (add-one i, drop-cons s i 0 h)) (then (wrote-byte e) (subst (λ (p : ℕ). Wrote m p (drop (i + 1) s) k q) on w))
-
-pub text-done : (d s : List ℕ) (at i : ℕ) → i ≡ length s → Wrote d at (drop i s) d at
-text-done d s at i e = wrote_as (rw (e, drop-length s)) (wrote_none d at)
 
 -- the last of a text may be stored first
 sets-snoc : (l : List ℕ) (i : ℕ) (xs : List ℕ) (y : ℕ) → sets l i (xs ++ (y ∷ [])) ≡ sets (set l (i + length xs) y) i xs
@@ -104,9 +105,9 @@ two-left rest (suc (suc m)) h l = omega arith
 
 -- digits stored at a number's own width are the number
 module _ (b least n : ℕ) where
-  pub width-least : (k : ℕ) → k ≡ places_of n b n → k < least → width_of b least n ≡ least
+  pub width-max : width_of b least n ≡ max (places_of n b n) least
   unfolding width_of
-  width-least k e h = simp (← e, lt-ltb _ _ h)
+  width-max = grind (arith, common_steps)
 
   pub width-own : (k : ℕ) → k ≡ places_of n b n → least ≤ k → width_of b least n ≡ k
   unfolding width_of
@@ -127,9 +128,21 @@ pub commas-next : (ns : List ℕ) (least i : ℕ) → i < length ns
 unfolding after_commas
 commas-next ns least i h = simp (drop-cons ns i 0 h, add-one i)
 
+-- what is left of a list of numbers after its first
+pub rest_at : (ns : List ℕ) (i : ℕ) → get_or (take (length ns - 1) (drop 1 ns)) i 0 ≡ get_or ns (i + 1) 0
+rest_at ns i = grind (arith, common_steps)
+
 pub commas-done : (ns : List ℕ) (least i : ℕ) → i ≡ length ns → after_commas least (drop i ns) ≡ []
 unfolding after_commas
 commas-done ns least i e = simp (e, drop-length ns)
+
+-- two words that differ count as 1
+pub change-as : (x y : ℕ) → (change x y ≡ from_bool (not (eqb x y))) × (change x y ≤ 1)
+change-as x y = go (eqb x y)
+  where
+    go : (t : Bool) → (pick t 0 1 ≡ from_bool (not t)) × (pick t 0 1 ≤ 1)
+    go true = (refl, omega arith)
+    go false = (refl, omega arith)
 
 -- memory compared: n words, of which a are passed
 module _ (before after : List ℕ) (n a : ℕ) where

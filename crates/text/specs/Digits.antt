@@ -1,5 +1,5 @@
 -- Bytes and digits, read and written; bytes are ASCII. Assumes nothing.
-use Rattle.std.specs.Prelude.{ℕ, zero, suc, ◌+◌, ◌-◌, ◌*◌, ◌/◌, ◌%◌, Bool, true, ◌&&◌, ◌||◌, List, [], ◌∷◌, ◌++◌, get_or, leb, ltb}
+use Rattle.std.specs.Prelude.{ℕ, zero, suc, ◌+◌, ◌-◌, ◌*◌, ◌/◌, ◌%◌, Bool, true, ◌&&◌, List, [], ◌∷◌, ◌++◌, get_or, leb, ltb, Option, Some, None, is_some, unwrap_or}
 use Rattle.machine.specs.Word.{pick}
 
 -- the byte at a place; past the end it is 0, which no line may hold
@@ -13,12 +13,16 @@ is_decimal b = leb 48 b && ltb b 58
 unfoldable pub is_letter : ℕ → Bool
 is_letter b = leb 65 b && ltb b 71
 
--- a digit of capital hex, and its value, 0 of any other byte
-unfoldable pub is_hex : ℕ → Bool
-is_hex b = is_decimal b || is_letter b
+-- the value of a digit of capital hex
+unfoldable pub hex_digit : ℕ → Option ℕ
+hex_digit b = pick (is_decimal b) (Some (b - 48)) (pick (is_letter b) (Some (b - 55)) None)
 
-unfoldable pub hex_of : ℕ → ℕ
-hex_of b = pick (is_decimal b) (b - 48) (pick (is_letter b) (b - 55) 0)
+-- a byte is such a digit, and its value, 0 of any other byte
+abbrev pub is_hex : ℕ → Bool
+is_hex b = is_some (hex_digit b)
+
+abbrev pub hex_of : ℕ → ℕ
+hex_of b = unwrap_or (hex_digit b) 0
 
 -- k bytes from `at` on are hex digits
 unfoldable pub all_hex : ℕ → List ℕ → ℕ → Bool

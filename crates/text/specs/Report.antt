@@ -1,12 +1,11 @@
 -- The report: its text as bytes, line by line in the order of the lines. Assumes nothing.
-use Rattle.std.specs.Prelude.{ℕ, zero, suc, ◌+◌, ◌*◌, ◌%◌, List, [], ◌∷◌, ◌++◌, ◌≡◌, length, get_or, eqb, ltb}
+use Rattle.std.specs.Prelude.{ℕ, zero, suc, ◌+◌, ◌*◌, ◌%◌, min, List, [], ◌∷◌, ◌++◌, ◌≡◌, length, get_or, eqb, Option, Some, None, Result, Ok, Err}
 use Rattle.std.proofs.lemmas.List.Edits.{sets}
 use Rattle.machine.specs.declared.Ending.{Ending}
-use Rattle.machine.specs.declared.Ending.TheVariants.{Budget, NotHeld, MonitorFetch, Refused}
+use Rattle.machine.specs.declared.Ending.TheVariants.{Budget, NotHeld, MonitorFetch}
 use Rattle.machine.specs.declared.Cause.{Cause}
 use Rattle.machine.specs.declared.Cause.TheVariants.{BelowBase, OverLimit, BeyondMemory}
 use Rattle.machine.specs.declared.Stray.{Stray}
-use Rattle.machine.specs.declared.Stray.TheVariants.{Clean, First}
 use Rattle.machine.specs.Word.{pick}
 use Rattle.machine.specs.State.{Registers, Frame, State}
 use Rattle.text.specs.Names.{name_steps, name_p, name_xa, name_vl, name_modes, name_iba, name_ila, name_dba, name_dla, name_ps, name_cln}
@@ -27,11 +26,11 @@ abbrev pub hex_line : List ℕ → ℕ → ℕ → List ℕ
 hex_line name least n = line_of name (shown 16 least n)
 
 -- `stop=`; no run that is reported was refused
-unfoldable pub stop_line : Ending → List ℕ
-stop_line Budget = stop_budget
-stop_line (NotHeld p) = stop_not_held
-stop_line (MonitorFetch p) = stop_monitor_fetch
-stop_line (Refused n) = stop_budget
+unfoldable pub stop_line : Result Ending ℕ → List ℕ
+stop_line (Ok Budget) = stop_budget
+stop_line (Ok (NotHeld p)) = stop_not_held
+stop_line (Ok (MonitorFetch p)) = stop_monitor_fetch
+stop_line (Err n) = stop_budget
 
 -- `outside=`: `none`, or why an operand of the last step that had such a one lay outside, and its element
 unfoldable pub cause_name : Cause → List ℕ
@@ -39,9 +38,9 @@ cause_name BelowBase = name_below
 cause_name OverLimit = name_over
 cause_name BeyondMemory = name_beyond
 
-unfoldable pub outside_line : Stray → List ℕ
-outside_line Clean = outside_none
-outside_line (First cause e) = decimal_line (cause_name cause) e
+unfoldable pub outside_line : Option Stray → List ℕ
+outside_line None = outside_none
+outside_line (Some stray) = decimal_line (cause_name stray.cause) stray.element
 
 -- MM as 1, IOR 2, IFP 4, FPS 8, BDM 10 in hex
 abbrev pub modes_of : Registers → Frame → ℕ
@@ -81,11 +80,8 @@ unfoldable pub state_lines : State → List ℕ
 state_lines st = control_lines st ++ field_lines st.frame ++ program_lines st.frame ++ register_lines st.registers
 
 -- the words compared: as many as both memories have, which no machine has more of than 4,194,304
-abbrev pub smaller : ℕ → ℕ → ℕ
-smaller x y = pick (ltb x y) x y
-
 abbrev pub compared_of : List ℕ → List ℕ → ℕ
-compared_of before after = smaller (smaller (length before) (length after)) 4194304
+compared_of before after = min (min (length before) (length after)) 4194304
 
 -- how many differ, of k words from address a on
 abbrev pub change : ℕ → ℕ → ℕ
@@ -109,7 +105,7 @@ changed_lines before after =
     decimal_line name_changed (changes (compared_of before after) 0 before after) ++ changed_words (compared_of before after) 0 before after
 
 -- the report of a run: how it ended, its stray, its steps, the processor at its end, and memory before and after it
-unfoldable pub report_of : Ending → Stray → ℕ → State → List ℕ → List ℕ → List ℕ
+unfoldable pub report_of : Result Ending ℕ → Option Stray → ℕ → State → List ℕ → List ℕ → List ℕ
 report_of ending stray steps st before after =
     stop_line ending
     ++ outside_line stray

@@ -6,8 +6,8 @@ use native.Mathlib.Omega.{arith}
 use native.Mathlib.Decide.{ℕ_discrete, dec_lt}
 use lib.ListN.{length, get_or, set, length-set}
 use lib.Seq.{get_or-set_same, get_or-set_other, set_out}
-use Rattle.machine.specs.declared.Place.{Place}
-use Rattle.machine.specs.declared.Place.TheVariants.{Inside, Outside}
+use Rattle.std.specs.Prelude.{Result, Ok, Err}
+use Rattle.machine.specs.declared.Cause.{Cause}
 use Rattle.machine.specs.Parcel.{word_of}
 use Rattle.machine.specs.State.{Frame}
 use Rattle.machine.specs.Memory.{Field, code_field, place_of, load_at, store_at, load, store, stores, parcel_at, fetch_of}
@@ -36,25 +36,25 @@ module _ {P : ℕ → Type 0} where
   other apart k h = record { long = k.long ∙ h.long; same = λ w p. k.same w (λ q. apart w q p) ∙ h.same w p }
 
 -- a place that is found is a word of the field
-pub place-in : (f : Field) (len a n : ℕ) → place_of f len a ≡ Inside n → In f len n
-place-in f len a n e = ((cause-first f len a (Inside n)).0 e).1
+pub place-in : (f : Field) (len a n : ℕ) → place_of f len a ≡ Ok n → In f len n
+place-in f len a n e = ((cause-first f len a (Ok n)).0 e).1
 
 -- a word read, and a parcel fetched, depend on the words of the field alone
 pub load-agree : (f : Field) (len : ℕ) (m m' : List ℕ) (a : ℕ) → length m ≡ len → Agree (In f len) m m' → load f m a ≡ load f m' a
 unfolding load
 load-agree f len m m' a e h = rw (← h.long, e) (go (place_of f len a) refl)
   where
-    go : (o : Place) → place_of f len a ≡ o → load_at m o ≡ load_at m' o
-    go (Inside n) q = h.same n (place-in f len a n q)
-    go (Outside cause) q = refl
+    go : (o : Result ℕ Cause) → place_of f len a ≡ o → load_at m o ≡ load_at m' o
+    go (Ok n) q = h.same n (place-in f len a n q)
+    go (Err cause) q = refl
 
 pub fetch-agree : (fr : Frame) (len : ℕ) (m m' : List ℕ) (p : ℕ) → length m ≡ len → Agree (In (code_field fr) len) m m' → fetch_of fr m p ≡ fetch_of fr m' p
 unfolding fetch_of
 fetch-agree fr len m m' p e h = rw (← h.long, e) (go (place_of (code_field fr) len (word_of p)) refl)
   where
-    go : (o : Place) → place_of (code_field fr) len (word_of p) ≡ o → parcel_at m p o ≡ parcel_at m' p o
-    go (Inside n) q = rw (h.same n (place-in (code_field fr) len (word_of p) n q))
-    go (Outside cause) q = refl
+    go : (o : Result ℕ Cause) → place_of (code_field fr) len (word_of p) ≡ o → parcel_at m p o ≡ parcel_at m' p o
+    go (Ok n) q = rw (h.same n (place-in (code_field fr) len (word_of p) n q))
+    go (Err cause) q = refl
 
 -- the same store in two memories leaves them agreeing wherever they did
 set-agree : {P : ℕ → Type 0} (m m' : List ℕ) (n v : ℕ) → Agree P m m' → Agree P (set m n v) (set m' n v)
@@ -70,9 +70,9 @@ store-agree : {P : ℕ → Type 0} (f : Field) (m m' : List ℕ) (a v : ℕ) →
 unfolding store
 store-agree {P} f m m' a v h = rw h.long (go (place_of f (length m') a))
   where
-    go : (o : Place) → Agree P (store_at m o v) (store_at m' o v)
-    go (Inside n) = set-agree m m' n v h
-    go (Outside cause) = h
+    go : (o : Result ℕ Cause) → Agree P (store_at m o v) (store_at m' o v)
+    go (Ok n) = set-agree m m' n v h
+    go (Err cause) = h
 
 pub stores-agree : {P : ℕ → Type 0} (f : Field) (at val : ℕ → ℕ) (n : ℕ) (m m' : List ℕ) → Agree P m m' → Agree P (stores f at val n m) (stores f at val n m')
 unfolding stores
@@ -84,10 +84,10 @@ store-only : (f : Field) (len : ℕ) (m : List ℕ) (a v : ℕ) → length m ≡
 unfolding store
 store-only f len m a v e = rw e (go (place_of f len a) refl)
   where
-    go : (o : Place) → place_of f len a ≡ o → Only (In f len) m (store_at m o v)
-    go (Inside n) q =
+    go : (o : Result ℕ Cause) → place_of f len a ≡ o → Only (In f len) m (store_at m o v)
+    go (Ok n) q =
         record { long = length-set m n v; same = λ w out. get_or-set_other m n w v 0 (λ z. out (rw z (place-in f len a n q))) }
-    go (Outside cause) q = itself m
+    go (Err cause) q = itself m
 
 pub stores-only : (f : Field) (len : ℕ) (at val : ℕ → ℕ) (n : ℕ) (m : List ℕ) → length m ≡ len → Only (In f len) m (stores f at val n m)
 unfolding stores

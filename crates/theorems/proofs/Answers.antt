@@ -3,12 +3,9 @@ use Prim.Native.Nat.{ℕ}
 use mathlib.Core.Path.{◌≡◌, refl}
 use mathlib.Core.Bool.{Bool, true, false}
 use mathlib.Core.List.{List}
-use native.Mathlib.Omega.{arith}
+use Rattle.std.specs.Prelude.{Option, Some, None}
 use Rattle.machine.specs.declared.ParcelAddr.{ParcelAddr}
-use Rattle.machine.specs.declared.Fetched.{Fetched}
-use Rattle.machine.specs.declared.Fetched.TheVariants.{Parcel, Outside}
 use Rattle.machine.specs.declared.Stray.{Stray}
-use Rattle.machine.specs.declared.Stray.TheVariants.{Clean}
 use Rattle.machine.specs.declared.Work.{Work}
 use Rattle.machine.specs.declared.Work.TheVariants as work
 use Rattle.machine.specs.declared.Answer.TheVariants.{NotHeld}
@@ -21,33 +18,29 @@ use Rattle.machine.specs.Work.{has_instr, with_parcel, decoded, present_of, no_p
 use Rattle.machine.specs.Step.{out, exchange, finish, finish_of, step_of}
 use Rattle.laws.proofs.Laws.{perform-acted, ranged-goes}
 
--- two numbers that differ
-pub distinct : ◌≡◌ {A = ℕ} 0 1 → ⊥
-distinct e = omega arith
-
 -- the first parcel at p is x, and it is no code
 pub record Unknown (fr : Frame) (mem : List ℕ) (p : ℕ) : Type 0 where
   pub x : ℕ
-  pub fetched : fetch_of fr mem p ≡ Parcel x
+  pub fetched : fetch_of fr mem p ≡ Some x
   pub none : code_of (user fr) x ≡ holds_none
 
-finish-held : (st : State) (w : Work) (s : Stray) (r : Registers) (sh : Shared) (p : ParcelAddr) → (finish st w s r sh).answer ≡ NotHeld p → w ≡ work.NotHeld
+finish-held : (st : State) (w : Work) (s : Option Stray) (r : Registers) (sh : Shared) (p : ParcelAddr) → (finish st w s r sh).answer ≡ NotHeld p → w ≡ work.NotHeld
 unfolding finish exchange
-finish-held st work.PastOne s r sh p e = absurd (distinct (cc))
-finish-held st work.PastTwo s r sh p e = absurd (distinct (cc))
-finish-held st (work.To q) s r sh p e = absurd (distinct (cc))
-finish-held st work.NormalExit s r sh p e = absurd (distinct (cc))
-finish-held st work.ErrorExit s r sh p e = absurd (distinct (cc))
+finish-held st work.PastOne s r sh p e = cc
+finish-held st work.PastTwo s r sh p e = cc
+finish-held st (work.To q) s r sh p e = cc
+finish-held st work.NormalExit s r sh p e = cc
+finish-held st work.ErrorExit s r sh p e = cc
 finish-held st work.StrayedOne s r sh p e = absurd (ranged-goes st.frame r (onward st.p.0 1) s sh (rw e))
 finish-held st work.StrayedTwo s r sh p e = absurd (ranged-goes st.frame r (onward st.p.0 2) s sh (rw e))
-finish-held st work.ProgramRange s r sh p e = absurd (distinct (cc))
+finish-held st work.ProgramRange s r sh p e = cc
 finish-held st work.NotHeld s r sh p e = refl
-finish-held st work.MonitorFetch s r sh p e = absurd (distinct (cc))
+finish-held st work.MonitorFetch s r sh p e = cc
 
 no-parcel-held : (user : Bool) → no_parcel user ≡ work.NotHeld → ⊥
 unfolding no_parcel
-no-parcel-held true e = distinct (cc)
-no-parcel-held false e = distinct (cc)
+no-parcel-held true e = cc
+no-parcel-held false e = cc
 
 module _ (fr : Frame) (r : Registers) (p : ℕ) (sh : Shared) where
   -- an instruction does something
@@ -61,18 +54,18 @@ module _ (fr : Frame) (r : Registers) (p : ℕ) (sh : Shared) where
   decoded-none x (holds_one n) e = absurd (held n x 0 1 e)
   decoded-none x (holds_two n) e = absurd (go (fetch_of fr sh.mem (onward p 1)) e)
     where
-      go : (o : Fetched) → (done_with fr r p sh (with_parcel o (λ m. has_instr n x m 2))).work ≡ work.NotHeld → ⊥
-      go Outside e = no-parcel-held (user fr) e
-      go (Parcel m) e = held n x m 2 e
+      go : (o : Option ℕ) → (done_with fr r p sh (with_parcel o (λ m. has_instr n x m 2))).work ≡ work.NotHeld → ⊥
+      go None e = no-parcel-held (user fr) e
+      go (Some m) e = held n x m 2 e
 
   work-unknown : (work_of fr r p sh).work ≡ work.NotHeld → Unknown fr sh.mem p
   unfolding work_of present_of done_with
   work-unknown e = go (fetch_of fr sh.mem p) refl e
     where
-      go : (o : Fetched) → fetch_of fr sh.mem p ≡ o
+      go : (o : Option ℕ) → fetch_of fr sh.mem p ≡ o
           → (done_with fr r p sh (with_parcel o (λ x. decoded fr sh.mem p x (code_of (user fr) x)))).work ≡ work.NotHeld → Unknown fr sh.mem p
-      go Outside q e = absurd (no-parcel-held (user fr) e)
-      go (Parcel x) q e = record { x = x; fetched = q; none = decoded-none x (code_of (user fr) x) e }
+      go None q e = absurd (no-parcel-held (user fr) e)
+      go (Some x) q e = record { x = x; fetched = q; none = decoded-none x (code_of (user fr) x) e }
 
 -- a step answers so only where the first parcel is fetched and is no code
 pub not-held-only : (st : State) (sh : Shared) (p : ParcelAddr) → (step_of st sh).answer ≡ NotHeld p → Unknown st.frame sh.mem st.p.0
@@ -82,6 +75,6 @@ not-held-only st sh p e =
     work-unknown st.frame st.registers st.p.0 sh (finish-held st d.work d.stray d.registers d.shared p e)
 
 -- and there always, with its own P, changing nothing
-pub not-held : (st : State) (sh : Shared) → Unknown st.frame sh.mem st.p.0 → step_of st sh ≡ out (NotHeld st.p) Clean st sh
+pub not-held : (st : State) (sh : Shared) → Unknown st.frame sh.mem st.p.0 → step_of st sh ≡ out (NotHeld st.p) None st sh
 unfolding step_of finish_of finish work_of present_of decoded done_with
 not-held st sh h = rw (h.fetched, h.none)

@@ -5,14 +5,11 @@ use mathlib.Core.Bool.{Bool, true, false, ◌&&◌, ◌||◌}
 use mathlib.Core.List.{List}
 use lib.ListN.{length}
 use lib.Dec.{eqb, leb, ltb}
+use Rattle.std.specs.Prelude.{Option, Some, None, Result, Ok, Err}
+use Rattle.machine.specs.declared.Cause.{Cause}
 use Rattle.machine.specs.declared.Cause.TheVariants.{BelowBase, OverLimit, BeyondMemory}
-use Rattle.machine.specs.declared.Place.{Place}
-use Rattle.machine.specs.declared.Place.TheVariants.{Inside, Outside}
 use Rattle.machine.specs.declared.Stray.{Stray}
-use Rattle.machine.specs.declared.Stray.TheVariants.{Clean, First}
 use Rattle.machine.specs.declared.Answer.TheVariants.{MonitorFetch}
-use Rattle.machine.specs.declared.Fetched.{Fetched}
-use Rattle.machine.specs.declared.Fetched.TheVariants as fetched
 use Rattle.machine.specs.Word.{pick}
 use Rattle.machine.specs.Parcel.{word_of, onward}
 use Rattle.machine.specs.State.{Frame, Registers, State, Shared, sharing, addr, user, apply}
@@ -31,16 +28,16 @@ use Rattle.theorems.proofs.Keeps.{apply-filed}
 -- ---- memory
 
 -- the place without the cause is the old one
-abbrev pub erase : Place → Old
-erase (Inside n) = at_place n
-erase (Outside cause) = beyond
+abbrev pub erase : Result ℕ Cause → Old
+erase (Ok n) = at_place n
+erase (Err cause) = beyond
 
 pub place-before : (f : Field) (len w : ℕ) → old_place f len w ≡ erase (place_of f len w)
 unfolding place_of old_place
 place-before f len w = go (ltb (sum_of f w) (f.base * 32)) (leb (f.limit * 32) (sum_of f w)) (leb len (sum_of f w))
   where
     go : (s t u : Bool) → pick s beyond (pick t beyond (pick u beyond (at_place (sum_of f w))))
-        ≡ erase (pick s (Outside BelowBase) (pick t (Outside OverLimit) (pick u (Outside BeyondMemory) (Inside (sum_of f w)))))
+        ≡ erase (pick s (Err BelowBase) (pick t (Err OverLimit) (pick u (Err BeyondMemory) (Ok (sum_of f w)))))
     go true t u = refl
     go false true u = refl
     go false false true = refl
@@ -51,17 +48,17 @@ pub load-before : (f : Field) (mem : List ℕ) (w : ℕ) → load f mem w ≡ ol
 unfolding load
 load-before f mem w = rw (place-before f (length mem) w) (go (place_of f (length mem) w))
   where
-    go : (o : Place) → load_at mem o ≡ old_load_at mem (erase o)
-    go (Inside n) = refl
-    go (Outside cause) = refl
+    go : (o : Result ℕ Cause) → load_at mem o ≡ old_load_at mem (erase o)
+    go (Ok n) = refl
+    go (Err cause) = refl
 
 store-before : (f : Field) (mem : List ℕ) (w x : ℕ) → store f mem w x ≡ old_store f mem w x
 unfolding store
 store-before f mem w x = rw (place-before f (length mem) w) (go (place_of f (length mem) w))
   where
-    go : (o : Place) → store_at mem o x ≡ old_store_at mem (erase o) x
-    go (Inside n) = refl
-    go (Outside cause) = refl
+    go : (o : Result ℕ Cause) → store_at mem o x ≡ old_store_at mem (erase o) x
+    go (Ok n) = refl
+    go (Err cause) = refl
 
 pub stores-before : (f : Field) (at val : ℕ → ℕ) (n : ℕ) (mem : List ℕ) → stores f at val n mem ≡ old_stores f at val n mem
 unfolding stores old_stores
@@ -73,14 +70,14 @@ pub fetch-before : (fr : Frame) (mem : List ℕ) (p : ℕ) → fetch_of fr mem p
 unfolding fetch_of
 fetch-before fr mem p = rw (place-before (code_field fr) (length mem) (word_of p)) (go (place_of (code_field fr) (length mem) (word_of p)))
   where
-    go : (o : Place) → parcel_at mem p o ≡ old_parcel_at mem p (erase o)
-    go (Inside n) = refl
-    go (Outside cause) = refl
+    go : (o : Result ℕ Cause) → parcel_at mem p o ≡ old_parcel_at mem p (erase o)
+    go (Ok n) = refl
+    go (Err cause) = refl
 
 -- and there is a stray exactly where a word was outside
-abbrev pub strayed : Stray → Bool
-strayed Clean = false
-strayed (First cause e) = true
+abbrev pub strayed : Option Stray → Bool
+strayed None = false
+strayed (Some stray) = true
 
 pub any-before : (f : Field) (at : ℕ → ℕ) (len n : ℕ) → strayed (first_outside f at len n) ≡ any_outside f at len n
 unfolding first_outside any_outside
@@ -88,21 +85,21 @@ any-before f at len zero = refl
 any-before f at len (suc n) =
     rw (← (any-before f at len n), place-before f len (at n)) (go (first_outside f at len n) (place_of f len (at n)))
   where
-    go : (s : Stray) (o : Place) → strayed (or_else s (stray_at n o)) ≡ (strayed s || is_beyond (erase o))
-    go Clean (Inside m) = refl
-    go Clean (Outside cause) = refl
-    go (First cause e) o = refl
+    go : (s : Option Stray) (o : Result ℕ Cause) → strayed (or_else s (stray_at n o)) ≡ (strayed s || is_beyond (erase o))
+    go None (Ok m) = refl
+    go None (Err cause) = refl
+    go (Some stray) o = refl
 
 -- ---- a step
 
 module _ (st : State) where
   -- past an instruction of one parcel or of two, without a stray and with any
-  clean-before : (one : Bool) (r : Registers) (sh : Shared) → bare (finish st (past (pick one 1 2) Clean) Clean r sh) ≡ passes st (pick one 1 2) r sh
+  clean-before : (one : Bool) (r : Registers) (sh : Shared) → bare (finish st (past (pick one 1 2) None) None r sh) ≡ passes st (pick one 1 2) r sh
   unfolding finish
   clean-before true r sh = refl
   clean-before false r sh = refl
 
-  ranged-before : (parcels : ℕ) (s : Stray) (r : Registers) (sh : Shared) → r.ior ≡ st.registers.ior
+  ranged-before : (parcels : ℕ) (s : Option Stray) (r : Registers) (sh : Shared) → r.ior ≡ st.registers.ior
       → bare (ranged st.frame r (onward st.p.0 parcels) s sh) ≡ ends st parcels true r sh
   unfolding ranged exchange
   ranged-before parcels s r sh i = go (user st.frame && eqb r.ior 1) ∙ ap (λ (k : ℕ). old (user st.frame && eqb k 1)) i
@@ -117,12 +114,12 @@ module _ (st : State) where
       go true = refl
       go false = refl
 
-  past-before : (one : Bool) (s : Stray) (r : Registers) (sh : Shared) → r.ior ≡ st.registers.ior
+  past-before : (one : Bool) (s : Option Stray) (r : Registers) (sh : Shared) → r.ior ≡ st.registers.ior
       → bare (finish st (past (pick one 1 2) s) s r sh) ≡ ends st (pick one 1 2) (strayed s) r sh
   unfolding finish
-  past-before one Clean r sh i = clean-before one r sh
-  past-before true (First cause e) r sh i = ranged-before 1 (First cause e) r sh i
-  past-before false (First cause e) r sh i = ranged-before 2 (First cause e) r sh i
+  past-before one None r sh i = clean-before one r sh
+  past-before true (Some stray) r sh i = ranged-before 1 (Some stray) r sh i
+  past-before false (Some stray) r sh i = ranged-before 2 (Some stray) r sh i
 
   module _ (sh : Shared) where
     -- an act, of an instruction of one parcel or of two
@@ -160,14 +157,14 @@ module _ (st : State) where
     unfolding done_with old_done finish_of finish no_parcel exchange
     fetched-before q f f' h = rw (fetch-before st.frame sh.mem q) (go (old_fetch st.frame sh.mem q))
       where
-        none : (t : Bool) → bare (finish st (no_parcel t) Clean st.registers sh)
+        none : (t : Bool) → bare (finish st (no_parcel t) None st.registers sh)
             ≡ pick t (exchanges st st.registers st.p.0 program_range sh) (plain (MonitorFetch st.p) st sh)
         none true = refl
         none false = refl
 
-        go : (o : Fetched) → now (with_parcel o f) ≡ old_done st sh (with_parcel o f')
-        go fetched.Outside = none (user st.frame)
-        go (fetched.Parcel x) = h x
+        go : (o : Option ℕ) → now (with_parcel o f) ≡ old_done st sh (with_parcel o f')
+        go None = none (user st.frame)
+        go (Some x) = h x
 
     decoded-before : (x : ℕ) (c : Code)
         → now (decoded st.frame sh.mem st.p.0 x c) ≡ old_done st sh (old_decoded st.frame sh.mem st.p.0 x c)

@@ -9,26 +9,21 @@ use lib.ListN.{length, get_or, set, take}
 use lib.Seq.{get_or-set_other}
 use lib.Dec.{eqb, eqb-suc-zero}
 use borrow.Author.Tests.{ne_eqb, eqb-true, eqb-false}
-use Rattle.machine.specs.declared.Answer.{Answer}
-use Rattle.machine.specs.declared.Answer.TheVariants.{Stepped, Exchanged, NotHeld, MonitorFetch}
-use Rattle.machine.specs.declared.Reply.TheVariants.{Refused}
+use Rattle.std.specs.Prelude.{Option, Some, None, Result, Ok, Err}
+use Rattle.machine.specs.declared.Answer.TheVariants.{Stepped}
 use Rattle.machine.specs.declared.Ending.TheVariants as ending
-use Rattle.machine.specs.declared.Last.{Last}
-use Rattle.machine.specs.declared.Last.TheVariants as last
 use Rattle.machine.specs.declared.Stray.{Stray}
-use Rattle.machine.specs.declared.Stray.TheVariants.{Clean}
 use Rattle.machine.specs.Word.{pick}
 use Rattle.machine.specs.State.{State, Shared, addr}
 use Rattle.machine.specs.Memory.{or_else}
 use Rattle.machine.specs.Exchange.{package_word, loaded_p, loaded_registers, loaded_frame, loaded}
 use Rattle.machine.specs.Step.{step_of, stops, goes_on, counted}
-use Rattle.machine.specs.Run.{zeros, blank_registers, blank_frame, start_of, Turned, turned, turn_of, Ended, ended, ending_of, run_of}
+use Rattle.machine.specs.Run.{Last, zeros, blank_registers, blank_frame, start_of, Turned, turned, turn_of, Ended, ended, ending_of, run_of}
 use Rattle.machine.specs.Run.{Half, half, half_after, PairEnded, pair_ended, pair_of}
 use Rattle.machine.specs.Refusal.{below, registers_fit, frame_fits, state_fits, memory_fits, check, first_due, start_refusal, step_refusal, run_refusal, pair_refusal}
 use Rattle.machine.specs.Call.{unless, Started, started, start_call, Replied, replied, step_call, turn_call, run_call, pair_call}
 use Rattle.laws.proofs.Below.{picked}
 use Rattle.theorems.proofs.Program.{at, program, program-length, passes-0, passes-1, stops-2}
-use Rattle.theorems.proofs.Answers.{distinct}
 use Rattle.theorems.proofs.Counted.{Goes, next_answer}
 
 -- ---- two results that a statement allows are equal
@@ -58,24 +53,24 @@ module _ (n : ℕ) (some : n ≡ 0 → ⊥) where
   unfolding start_call
   start-refused st mem x k e = refused _ (λ m. started m st) _ n e some
 
-  pub step-refused : (st : State) (sh : Shared) → step_refusal (length sh.mem) st ≡ n → step_call st sh ≡ replied (Refused n) Clean st sh
+  pub step-refused : (st : State) (sh : Shared) → step_refusal (length sh.mem) st ≡ n → step_call st sh ≡ replied (Err n) None st sh
   unfolding step_call
-  step-refused st sh e = refused _ (λ m. replied (Refused m) Clean st sh) _ n e some
+  step-refused st sh e = refused _ (λ m. replied (Err m) None st sh) _ n e some
 
   pub turn-refused : (st : State) (sh : Shared) (budget : ℕ) → run_refusal (length sh.mem) st budget ≡ n
-      → turn_call st sh budget ≡ turned (last.Refused n) Clean 0 st sh
+      → turn_call st sh budget ≡ turned (Err n) None 0 st sh
   unfolding turn_call
-  turn-refused st sh budget e = refused _ (λ m. turned (last.Refused m) Clean 0 st sh) _ n e some
+  turn-refused st sh budget e = refused _ (λ m. turned (Err m) None 0 st sh) _ n e some
 
   pub run-refused : (st : State) (sh : Shared) (budget : ℕ) → run_refusal (length sh.mem) st budget ≡ n
-      → run_call st sh budget ≡ ended (ending.Refused n) Clean 0 st sh
+      → run_call st sh budget ≡ ended (Err n) None 0 st sh
   unfolding run_call
-  run-refused st sh budget e = refused _ (λ m. ended (ending.Refused m) Clean 0 st sh) _ n e some
+  run-refused st sh budget e = refused _ (λ m. ended (Err m) None 0 st sh) _ n e some
 
   pub pair-refused : (x y : State) (sh : Shared) (schedule : List ℕ) → pair_refusal (length sh.mem) x y schedule ≡ n
-      → pair_call x y sh schedule ≡ pair_ended (last.Refused n) 0 (half x) (half y) sh
+      → pair_call x y sh schedule ≡ pair_ended (Err n) 0 (half x) (half y) sh
   unfolding pair_call
-  pair-refused x y sh schedule e = refused _ (λ m. pair_ended (last.Refused m) 0 (half x) (half y) sh) _ n e some
+  pair-refused x y sh schedule e = refused _ (λ m. pair_ended (Err m) 0 (half x) (half y) sh) _ n e some
 
 -- and only such a call answers that it is refused
 only : {A : Type 0} (Says : A → ℕ → Type 0) (does : A) (left : ℕ → A) → ((n : ℕ) → Says does n → ⊥) → ((m n : ℕ) → Says (left m) n → m ≡ n)
@@ -86,37 +81,28 @@ only Says does left never same (suc m) n e =
     (k, (λ z. omega arith))
 
 -- no answer is a refusal
-ending-answers : (o : Answer) (n : ℕ) → ending_of o ≡ ending.Refused n → ⊥
-ending-answers Stepped n e = distinct (cc)
-ending-answers (Exchanged flags) n e = distinct (cc)
-ending-answers (NotHeld p) n e = distinct (cc)
-ending-answers (MonitorFetch p) n e = distinct (cc)
+answered : {A : Type 0} (a : A) (n : ℕ) → ◌≡◌ {A = Result A ℕ} (Ok a) (Err n) → ⊥
+answered a n e = cc
 
 -- so no run, turn or pair run ends in one
 abbrev Answers : Last → Type 0
-Answers l = (n : ℕ) → l ≡ last.Refused n → ⊥
+Answers l = (n : ℕ) → l ≡ Err n → ⊥
 
-was : (o : Answer) → Answers (last.Was o)
-was o n e = distinct (cc)
-
-nothing : Answers last.Nothing
-nothing n e = distinct (cc)
-
-run-answers : (budget : ℕ) (s : Stray) (k : ℕ) (st : State) (sh : Shared) (n : ℕ) → (run_of budget s k st sh).ending ≡ ending.Refused n → ⊥
+run-answers : (budget : ℕ) (s : Option Stray) (k : ℕ) (st : State) (sh : Shared) (n : ℕ) → (run_of budget s k st sh).ending ≡ Err n → ⊥
 unfolding run_of
-run-answers zero s k st sh n = λ e. distinct (cc)
+run-answers zero s k st sh n = answered ending.Budget n
 run-answers (suc budget) s k st sh n =
     let o = step_of st sh in
-    picked (λ (e : Ended). e.ending ≡ ending.Refused n → ⊥) (stops o.answer)
-    (ending-answers o.answer n) (run-answers budget (or_else o.stray s) (k + counted o.answer) o.state o.shared n)
+    picked (λ (e : Ended). e.ending ≡ Err n → ⊥) (stops o.answer)
+    (answered (ending_of o.answer) n) (run-answers budget (or_else o.stray s) (k + counted o.answer) o.state o.shared n)
 
-turn-answers : (budget : ℕ) (l : Last) (s : Stray) (k : ℕ) (st : State) (sh : Shared) → Answers l → Answers (turn_of budget l s k st sh).last
+turn-answers : (budget : ℕ) (l : Last) (s : Option Stray) (k : ℕ) (st : State) (sh : Shared) → Answers l → Answers (turn_of budget l s k st sh).last
 unfolding turn_of
 turn-answers zero l s k st sh h = h
 turn-answers (suc budget) l s k st sh h =
     let o = step_of st sh in
     picked (λ (e : Turned). Answers e.last) (goes_on o.answer)
-    (turn-answers budget (last.Was o.answer) (or_else o.stray s) (k + counted o.answer) o.state o.shared (was o.answer)) (was o.answer)
+    (turn-answers budget (Ok (Some o.answer)) (or_else o.stray s) (k + counted o.answer) o.state o.shared (answered (Some o.answer))) (answered (Some o.answer))
 
 pair-answers : (bytes : List ℕ) (l : Last) (k : ℕ) (x y : Half) (sh : Shared) → Answers l → Answers (pair_of bytes l k x y sh).last
 unfolding pair_of
@@ -124,11 +110,11 @@ pair-answers [] l k x y sh h = h
 pair-answers (zero ∷ bytes) l k x y sh h =
     let o = step_of x.state sh in
     picked (λ (e : PairEnded). Answers e.last) (goes_on o.answer)
-    (pair-answers bytes (last.Was o.answer) (k + counted o.answer) (half_after x o) y o.shared (was o.answer)) (was o.answer)
+    (pair-answers bytes (Ok (Some o.answer)) (k + counted o.answer) (half_after x o) y o.shared (answered (Some o.answer))) (answered (Some o.answer))
 pair-answers (suc b ∷ bytes) l k x y sh h =
     let o = step_of y.state sh in
     picked (λ (e : PairEnded). Answers e.last) (goes_on o.answer)
-    (pair-answers bytes (last.Was o.answer) (k + counted o.answer) x (half_after y o) o.shared (was o.answer)) (was o.answer)
+    (pair-answers bytes (Ok (Some o.answer)) (k + counted o.answer) x (half_after y o) o.shared (answered (Some o.answer))) (answered (Some o.answer))
 
 -- a start's number is its refusal number, 0 too
 pub start-number : (st : State) (mem : List ℕ) (x n : ℕ) → (start_call st mem x n).refused ≡ start_refusal (length mem) x n
@@ -139,30 +125,30 @@ start-number st mem x n = go (start_refusal (length mem) x n)
     go zero = refl
     go (suc m) = rw (eqb-suc-zero m)
 
-pub step-refused-only : (st : State) (sh : Shared) (n : ℕ) → (step_call st sh).reply ≡ Refused n → (step_refusal (length sh.mem) st ≡ n) × (n ≡ 0 → ⊥)
+pub step-refused-only : (st : State) (sh : Shared) (n : ℕ) → (step_call st sh).reply ≡ Err n → (step_refusal (length sh.mem) st ≡ n) × (n ≡ 0 → ⊥)
 unfolding step_call
-step-refused-only st sh = only (λ o n. o.reply ≡ Refused n) _ (λ m. replied (Refused m) Clean st sh) (λ n e. distinct (cc)) (λ m n e. cc) _
+step-refused-only st sh = only (λ o n. o.reply ≡ Err n) _ (λ m. replied (Err m) None st sh) (λ n e. cc) (λ m n e. cc) _
 
-pub turn-refused-only : (st : State) (sh : Shared) (budget n : ℕ) → (turn_call st sh budget).last ≡ last.Refused n
+pub turn-refused-only : (st : State) (sh : Shared) (budget n : ℕ) → (turn_call st sh budget).last ≡ Err n
     → (run_refusal (length sh.mem) st budget ≡ n) × (n ≡ 0 → ⊥)
 unfolding turn_call
 turn-refused-only st sh budget =
-    only (λ o n. o.last ≡ last.Refused n) (turn_of budget last.Nothing Clean 0 st sh) (λ m. turned (last.Refused m) Clean 0 st sh)
-    (turn-answers budget last.Nothing Clean 0 st sh nothing) (λ m n e. cc) _
+    only (λ o n. o.last ≡ Err n) (turn_of budget (Ok None) None 0 st sh) (λ m. turned (Err m) None 0 st sh)
+    (turn-answers budget (Ok None) None 0 st sh (answered None)) (λ m n e. cc) _
 
-pub run-refused-only : (st : State) (sh : Shared) (budget n : ℕ) → (run_call st sh budget).ending ≡ ending.Refused n
+pub run-refused-only : (st : State) (sh : Shared) (budget n : ℕ) → (run_call st sh budget).ending ≡ Err n
     → (run_refusal (length sh.mem) st budget ≡ n) × (n ≡ 0 → ⊥)
 unfolding run_call
 run-refused-only st sh budget =
-    only (λ o n. o.ending ≡ ending.Refused n) (run_of budget Clean 0 st sh) (λ m. ended (ending.Refused m) Clean 0 st sh)
-    (run-answers budget Clean 0 st sh) (λ m n e. cc) _
+    only (λ o n. o.ending ≡ Err n) (run_of budget None 0 st sh) (λ m. ended (Err m) None 0 st sh)
+    (run-answers budget None 0 st sh) (λ m n e. cc) _
 
-pub pair-refused-only : (x y : State) (sh : Shared) (schedule : List ℕ) (n : ℕ) → (pair_call x y sh schedule).last ≡ last.Refused n
+pub pair-refused-only : (x y : State) (sh : Shared) (schedule : List ℕ) (n : ℕ) → (pair_call x y sh schedule).last ≡ Err n
     → (pair_refusal (length sh.mem) x y schedule ≡ n) × (n ≡ 0 → ⊥)
 unfolding pair_call
 pair-refused-only x y sh schedule =
-    only (λ o n. o.last ≡ last.Refused n) (pair_of schedule last.Nothing 0 (half x) (half y) sh) (λ m. pair_ended (last.Refused m) 0 (half x) (half y) sh)
-    (pair-answers schedule last.Nothing 0 (half x) (half y) sh nothing) (λ m n e. cc) _
+    only (λ o n. o.last ≡ Err n) (pair_of schedule (Ok None) 0 (half x) (half y) sh) (λ m. pair_ended (Err m) 0 (half x) (half y) sh)
+    (pair-answers schedule (Ok None) 0 (half x) (half y) sh (answered None)) (λ m n e. cc) _
 
 -- ---- a budget of 0 and an empty schedule do nothing, and are no cause of refusal
 
@@ -170,11 +156,11 @@ pub none_allowed : (len : ℕ) (st : State) → run_refusal len st 0 ≡ step_re
 unfolding run_refusal step_refusal first_due
 none_allowed len st = refl
 
-pub turn-none : (st : State) (sh : Shared) → run_refusal (length sh.mem) st 0 ≡ 0 → turn_call st sh 0 ≡ turned last.Nothing Clean 0 st sh
+pub turn-none : (st : State) (sh : Shared) → run_refusal (length sh.mem) st 0 ≡ 0 → turn_call st sh 0 ≡ turned (Ok None) None 0 st sh
 unfolding turn_call turn_of
 turn-none st sh e = rw e
 
-pub run_none : (st : State) (sh : Shared) → run_refusal (length sh.mem) st 0 ≡ 0 → run_call st sh 0 ≡ ended ending.Budget Clean 0 st sh
+pub run_none : (st : State) (sh : Shared) → run_refusal (length sh.mem) st 0 ≡ 0 → run_call st sh 0 ≡ ended (Ok ending.Budget) None 0 st sh
 unfolding run_call run_of
 run_none st sh e = rw e
 
@@ -187,7 +173,7 @@ pub empty-allowed : (len : ℕ) (x y : State) → pair_refusal len x y []
 unfolding pair_refusal first_due below
 empty-allowed len x y = refl
 
-pub pair-none : (x y : State) (sh : Shared) → pair_refusal (length sh.mem) x y [] ≡ 0 → pair_call x y sh [] ≡ pair_ended last.Nothing 0 (half x) (half y) sh
+pub pair-none : (x y : State) (sh : Shared) → pair_refusal (length sh.mem) x y [] ≡ 0 → pair_call x y sh [] ≡ pair_ended (Ok None) 0 (half x) (half y) sh
 unfolding pair_call pair_of
 pair-none x y sh e = rw e
 
@@ -263,12 +249,12 @@ unfolding at run_refusal first_due memory_fits state_fits registers_fit frame_fi
 run-allowed = rw program-length
 
 -- three steps at most: two are counted, and the third stops
-three : run_call (at 1 0 0) program 3 ≡ ended (ending.NotHeld (addr 2)) Clean 2 (at 1 0 2) program
+three : run_call (at 1 0 0) program 3 ≡ ended (Ok (ending.NotHeld (addr 2))) None 2 (at 1 0 2) program
 unfolding run_call run_of
 three = rw (run-allowed, passes-0, passes-1, stops-2)
 
 module _ (run : Run) (meets : RunMeets run) where
-  ran : run (at 1 0 0) program 3 ≡ ended (ending.NotHeld (addr 2)) Clean 2 (at 1 0 2) program
+  ran : run (at 1 0 0) program 3 ≡ ended (Ok (ending.NotHeld (addr 2))) None 2 (at 1 0 2) program
   ran = meets (at 1 0 0) program 3 run-allowed ∙ three
 
   -- a run that counts all its budget
@@ -294,11 +280,11 @@ module _ (run : Run) (meets : RunMeets run) where
       omega arith
 
   -- a run that no stop ends
-  pub never-stops : RunAlways (λ st sh budget. (run st sh budget).ending ≡ ending.Budget) → ⊥
+  pub never-stops : RunAlways (λ st sh budget. (run st sh budget).ending ≡ Ok ending.Budget) → ⊥
   never-stops always =
       let a = always (at 1 0 0) program 3 run-allowed in
       let b = ap (λ (o : Ended). o.ending) ran in
-      distinct (cc)
+      cc
 
   -- a run that leaves the state as it was
   pub never-moves : RunAlways (λ st sh budget. (run st sh budget).state ≡ st) → ⊥
@@ -318,11 +304,11 @@ two-allowed : pair_refusal (length program.mem) (at 1 0 0) (at 1 1 0) (0 ∷ 0 �
 unfolding at pair_refusal first_due memory_fits state_fits registers_fit frame_fits below zeros
 two-allowed = rw program-length
 
-one : pair_call (at 1 0 0) (at 1 1 0) program (0 ∷ []) ≡ pair_ended (last.Was Stepped) 1 (half (at 1 0 1)) (half (at 1 1 0)) program
+one : pair_call (at 1 0 0) (at 1 1 0) program (0 ∷ []) ≡ pair_ended (Ok (Some Stepped)) 1 (half (at 1 0 1)) (half (at 1 1 0)) program
 unfolding pair_call pair_of
 one = rw (one-allowed, passes-0)
 
-two : pair_call (at 1 0 0) (at 1 1 0) program (0 ∷ 0 ∷ []) ≡ pair_ended (last.Was Stepped) 2 (half (at 1 0 2)) (half (at 1 1 0)) program
+two : pair_call (at 1 0 0) (at 1 1 0) program (0 ∷ 0 ∷ []) ≡ pair_ended (Ok (Some Stepped)) 2 (half (at 1 0 2)) (half (at 1 1 0)) program
 unfolding pair_call pair_of
 two = rw (two-allowed, passes-0, passes-1)
 
@@ -359,18 +345,18 @@ package-first start gives meets =
     omega arith
 
 -- a run that looks at the processor's number before the budget
-pub processor-first : (run : Run) → ((st : State) (sh : Shared) (budget : ℕ) → 1 < st.frame.processor → (run st sh budget).ending ≡ ending.Refused 4)
+pub processor-first : (run : Run) → ((st : State) (sh : Shared) (budget : ℕ) → 1 < st.frame.processor → (run st sh budget).ending ≡ Err 4)
     → ((st : State) (sh : Shared) (budget : ℕ) → run st sh budget ≡ run_call st sh budget) → ⊥
 unfolding at run_refusal first_due memory_fits
 processor-first run four meets =
     let number : run_refusal (length program.mem) (at 1 2 0) 1000001 ≡ 3 = rw program-length in
     let a = four (at 1 2 0) program 1000001 (omega arith) in
     let b = ap (λ (o : Ended). o.ending) (meets (at 1 2 0) program 1000001 ∙ run-refused 3 (λ z. omega arith) (at 1 2 0) program 1000001 number) in
-    distinct (cc)
+    cc
 
 -- a pair run that looks at the bytes before the processors' numbers
 pub byte-first : (pair : PairRun)
-    → ((x y : State) (sh : Shared) (schedule : List ℕ) → below 2 schedule ≡ false → (pair x y sh schedule).last ≡ last.Refused 6)
+    → ((x y : State) (sh : Shared) (schedule : List ℕ) → below 2 schedule ≡ false → (pair x y sh schedule).last ≡ Err 6)
     → ((x y : State) (sh : Shared) (schedule : List ℕ) → pair x y sh schedule ≡ pair_call x y sh schedule) → ⊥
 unfolding at pair_refusal first_due memory_fits below
 byte-first pair six meets =
@@ -378,4 +364,4 @@ byte-first pair six meets =
     let a = six (at 1 0 0) (at 1 0 0) program (2 ∷ []) refl in
     let e = meets (at 1 0 0) (at 1 0 0) program (2 ∷ []) ∙ pair-refused 4 (λ z. omega arith) (at 1 0 0) (at 1 0 0) program (2 ∷ []) number in
     let b = ap (λ (o : PairEnded). o.last) e in
-    distinct (cc)
+    cc

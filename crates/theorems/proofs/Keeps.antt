@@ -7,6 +7,7 @@ use mathlib.Core.List.{List}
 use native.Mathlib.Omega.{arith}
 use lib.ListN.{length, length-set}
 use lib.Dec.{eqb}
+use Rattle.std.specs.Prelude.{Option}
 use Rattle.machine.specs.declared.Stray.{Stray}
 use Rattle.machine.specs.declared.Work.{Work}
 use Rattle.machine.specs.declared.Work.TheVariants.{PastOne, PastTwo, To, NormalExit, ErrorExit, StrayedOne, StrayedTwo, ProgramRange, NotHeld, MonitorFetch}
@@ -84,13 +85,13 @@ save-only : (fr : Frame) (r : Registers) (p flags x : ℕ) (m : List ℕ) → On
 unfolding save
 save-only fr r p flags x m = record { long = fill-length _ _ 16 m; same = λ w out. fill-other _ _ 16 m w (λ e l z. out (omega (arith, l, z))) }
 
-ranged-only : (fr : Frame) (r : Registers) (p : ℕ) (s : Stray) (sh : Shared) → Only (Package r.xa) sh.mem (ranged fr r p s sh).shared.mem
+ranged-only : (fr : Frame) (r : Registers) (p : ℕ) (s : Option Stray) (sh : Shared) → Only (Package r.xa) sh.mem (ranged fr r p s sh).shared.mem
 unfolding ranged exchange
 ranged-only fr r p s sh =
     picked (λ (o : Out). Only (Package r.xa) sh.mem o.shared.mem) (user fr && eqb r.ior 1)
     (save-only fr r p _ r.xa sh.mem) (itself sh.mem)
 
-finish-only : (st : State) (w : Work) (s : Stray) (r : Registers) (sh : Shared) (x : ℕ) → (Ends w → r.xa ≡ x)
+finish-only : (st : State) (w : Work) (s : Option Stray) (r : Registers) (sh : Shared) (x : ℕ) → (Ends w → r.xa ≡ x)
     → Only (Package x) sh.mem (finish st w s r sh).shared.mem
 unfolding finish exchange
 finish-only st PastOne s r sh x e = itself sh.mem
@@ -149,12 +150,12 @@ loaded-sized : (m : List ℕ) (x : ℕ) (r : Registers) (fr : Frame) → Sized r
 unfolding loaded
 loaded-sized m x r fr z = record { a = refl; s = refl; b = z.b; t = z.t; v = z.v }
 
-ranged-sized : (fr : Frame) (r : Registers) (p : ℕ) (s : Stray) (sh : Shared) → Sized r → Sized (ranged fr r p s sh).state.registers
+ranged-sized : (fr : Frame) (r : Registers) (p : ℕ) (s : Option Stray) (sh : Shared) → Sized r → Sized (ranged fr r p s sh).state.registers
 unfolding ranged exchange
 ranged-sized fr r p s sh z =
     picked (λ (o : Out). Sized o.state.registers) (user fr && eqb r.ior 1) (loaded-sized sh.mem r.xa r fr z) z
 
-finish-sized : (st : State) (w : Work) (s : Stray) (r : Registers) (sh : Shared) → Sized st.registers → Sized r → Sized (finish st w s r sh).state.registers
+finish-sized : (st : State) (w : Work) (s : Option Stray) (r : Registers) (sh : Shared) → Sized st.registers → Sized r → Sized (finish st w s r sh).state.registers
 unfolding finish exchange
 finish-sized st PastOne s r sh z y = y
 finish-sized st PastTwo s r sh z y = y

@@ -6,12 +6,10 @@ use native.Mathlib.Omega.{arith}
 use native.Mathlib.Decide.{dec_lt}
 use lib.Dec.{eqb, leb, ltb}
 use borrow.Author.Tests.{ltb-true, ltb-false, leb-true, leb-false, lt-ltb, le-ltb, le-leb, lt-leb}
+use Rattle.std.specs.Prelude.{Option, Some, None, Result, Ok, Err}
 use Rattle.machine.specs.declared.Cause.{Cause}
 use Rattle.machine.specs.declared.Cause.TheVariants.{BelowBase, OverLimit, BeyondMemory}
-use Rattle.machine.specs.declared.Place.{Place}
-use Rattle.machine.specs.declared.Place.TheVariants.{Inside, Outside}
 use Rattle.machine.specs.declared.Stray.{Stray}
-use Rattle.machine.specs.declared.Stray.TheVariants.{Clean, First}
 use Rattle.machine.specs.declared.Work.{Work}
 use Rattle.machine.specs.declared.Work.TheVariants as work
 use Rattle.machine.specs.Word.{pick}
@@ -25,17 +23,16 @@ use Rattle.machine.specs.Step.{Out, exchange, ranged, finish, finish_of, step_of
 use Rattle.machine.specs.Run.{Ended, run_of}
 use Rattle.laws.proofs.Below.{picked}
 use Rattle.theorems.specs.Statement.{In}
-use Rattle.theorems.proofs.Answers.{distinct}
 use Rattle.theorems.proofs.Counted.{state_after, shared_after, last_stray, Goes, run_on, run-spent}
 
 -- ---- a word
 
 -- what each place means of the word w
-abbrev pub Means : Field → ℕ → ℕ → Place → Type 0
-Means f len w (Inside n) = (n ≡ sum_of f w) × In f len n
-Means f len w (Outside BelowBase) = sum_of f w < f.base * 32
-Means f len w (Outside OverLimit) = (f.base * 32 ≤ sum_of f w) × (f.limit * 32 ≤ sum_of f w)
-Means f len w (Outside BeyondMemory) = (f.base * 32 ≤ sum_of f w) × (sum_of f w < f.limit * 32) × (len ≤ sum_of f w)
+abbrev pub Means : Field → ℕ → ℕ → Result ℕ Cause → Type 0
+Means f len w (Ok n) = (n ≡ sum_of f w) × In f len n
+Means f len w (Err BelowBase) = sum_of f w < f.base * 32
+Means f len w (Err OverLimit) = (f.base * 32 ≤ sum_of f w) × (f.limit * 32 ≤ sum_of f w)
+Means f len w (Err BeyondMemory) = (f.base * 32 ≤ sum_of f w) × (sum_of f w < f.limit * 32) × (len ≤ sum_of f w)
 
 place-means : (f : Field) (len w : ℕ) → Means f len w (place_of f len w)
 unfolding place_of
@@ -45,23 +42,23 @@ place-means f len w = go (ltb q (f.base * 32)) (leb (f.limit * 32) q) (leb len q
     q = sum_of f w
 
     go : (s t u : Bool) → ltb q (f.base * 32) ≡ s → leb (f.limit * 32) q ≡ t → leb len q ≡ u
-        → Means f len w (pick s (Outside BelowBase) (pick t (Outside OverLimit) (pick u (Outside BeyondMemory) (Inside q))))
+        → Means f len w (pick s (Err BelowBase) (pick t (Err OverLimit) (pick u (Err BeyondMemory) (Ok q))))
     go true t u b l o = ltb-true q (f.base * 32) b
     go false true u b l o = (ltb-false q (f.base * 32) b, leb-true (f.limit * 32) q l)
     go false false true b l o = (ltb-false q (f.base * 32) b, leb-false (f.limit * 32) q l, leb-true len q o)
     go false false false b l o = (refl, (ltb-false q (f.base * 32) b, leb-false (f.limit * 32) q l, leb-false len q o))
 
-means-place : (f : Field) (len w : ℕ) (o : Place) → Means f len w o → place_of f len w ≡ o
+means-place : (f : Field) (len w : ℕ) (o : Result ℕ Cause) → Means f len w o → place_of f len w ≡ o
 unfolding place_of
-means-place f len w (Outside BelowBase) h = rw (lt-ltb _ _ h)
-means-place f len w (Outside OverLimit) h = rw (le-ltb _ _ h.0, le-leb _ _ h.1)
-means-place f len w (Outside BeyondMemory) h = rw (le-ltb _ _ h.0, lt-leb _ _ h.1, le-leb _ _ h.2)
-means-place f len w (Inside n) h =
+means-place f len w (Err BelowBase) h = rw (lt-ltb _ _ h)
+means-place f len w (Err OverLimit) h = rw (le-ltb _ _ h.0, le-leb _ _ h.1)
+means-place f len w (Err BeyondMemory) h = rw (le-ltb _ _ h.0, lt-leb _ _ h.1, le-leb _ _ h.2)
+means-place f len w (Ok n) h =
     let k : In f len (sum_of f w) = rw h.0 at h.1 in
     rw (h.0, le-ltb _ _ k.0, lt-leb _ _ k.1, lt-leb _ _ k.2)
 
 -- the cause is the first of the three tests that holds, and a word is inside exactly where none does
-pub cause-first : (f : Field) (len w : ℕ) (o : Place) → (place_of f len w ≡ o → Means f len w o) × (Means f len w o → place_of f len w ≡ o)
+pub cause-first : (f : Field) (len w : ℕ) (o : Result ℕ Cause) → (place_of f len w ≡ o → Means f len w o) × (Means f len w o → place_of f len w ≡ o)
 cause-first f len w o = ((λ e. rw e at (place-means f len w)), means-place f len w o)
 
 -- ---- n words
@@ -69,48 +66,49 @@ cause-first f len w o = ((λ e. rw e at (place-means f len w)), means-place f le
 module _ (f : Field) (at : ℕ → ℕ) (len : ℕ) where
   -- the words before the one numbered n are all inside
   abbrev pub Within : ℕ → Type 0
-  Within n = (d : ℕ) → d < n → (m : ℕ) × (place_of f len (at d) ≡ Inside m)
+  Within n = (d : ℕ) → d < n → (m : ℕ) × (place_of f len (at d) ≡ Ok m)
 
-  abbrev pub Tells : ℕ → Stray → Type 0
-  Tells n Clean = Within n
-  Tells n (First c e) = (e < n) × (place_of f len (at e) ≡ Outside c) × Within e
+  abbrev pub Tells : ℕ → Option Stray → Type 0
+  Tells n None = Within n
+  Tells n (Some stray) = (stray.element < n) × (place_of f len (at stray.element) ≡ Err stray.cause) × Within stray.element
 
   tells : (n : ℕ) → Tells n (first_outside f at len n)
   unfolding first_outside
   tells zero = λ d l. absurd (omega arith)
   tells (suc n) = go (first_outside f at len n) (tells n) (place_of f len (at n)) refl
     where
-      more : Within n → (m : ℕ) → place_of f len (at n) ≡ Inside m → (d : ℕ) → d < suc n → Dec (d < n) → (m : ℕ) × (place_of f len (at d) ≡ Inside m)
+      more : Within n → (m : ℕ) → place_of f len (at n) ≡ Ok m → (d : ℕ) → d < suc n → Dec (d < n) → (m : ℕ) × (place_of f len (at d) ≡ Ok m)
       more h m q d l (yes k) = h d k
       more h m q d l (no k) = let e : d ≡ n = omega arith in (m, rw e q)
 
-      go : (s : Stray) → Tells n s → (o : Place) → place_of f len (at n) ≡ o → Tells (suc n) (or_else s (stray_at n o))
-      go Clean h (Inside m) q = λ d l. more h m q d l (dec_lt d n)
-      go Clean h (Outside c) q = (omega arith, q, h)
-      go (First c e) h o q = (omega (arith, h.0), h.1, h.2)
+      go : (s : Option Stray) → Tells n s → (o : Result ℕ Cause) → place_of f len (at n) ≡ o → Tells (suc n) (or_else s (stray_at n o))
+      go None h (Ok m) q = λ d l. more h m q d l (dec_lt d n)
+      go None h (Err c) q = (omega arith, q, h)
+      go (Some stray) h o q = (omega (arith, h.0), h.1, h.2)
 
   -- the stray is the least number of a word outside, with its cause
-  pub least : (n : ℕ) (c : Cause) (e : ℕ) → first_outside f at len n ≡ First c e → (e < n) × (place_of f len (at e) ≡ Outside c) × Within e
-  least n c e q = rw q at (tells n)
+  pub least : (n : ℕ) (stray : Stray) → first_outside f at len n ≡ Some stray
+      → (stray.element < n) × (place_of f len (at stray.element) ≡ Err stray.cause) × Within stray.element
+  least n stray q = rw q at (tells n)
 
   -- and there is none exactly where all are inside
-  pub none-outside : (n : ℕ) → (first_outside f at len n ≡ Clean → Within n) × (Within n → first_outside f at len n ≡ Clean)
+  pub none-outside : (n : ℕ) → (first_outside f at len n ≡ None → Within n) × (Within n → first_outside f at len n ≡ None)
   none-outside n = ((λ q. rw q at (tells n)), λ h. go h (first_outside f at len n) (tells n))
     where
-      go : Within n → (s : Stray) → Tells n s → s ≡ Clean
-      go h Clean t = refl
-      go h (First c e) t =
-          let a = (h e t.0).1 in
+      go : Within n → (s : Option Stray) → Tells n s → s ≡ None
+      go h None t = refl
+      go h (Some stray) t =
+          let a = (h stray.element t.0).1 in
           let b = t.1 in
-          absurd (distinct (cc))
+          cc
 
 -- ---- a step
 
-ranged-stray : (fr : Frame) (r : Registers) (p : ℕ) (s : Stray) (sh : Shared) → (ranged fr r p s sh).stray ≡ s
+ranged-stray : (fr : Frame) (r : Registers) (p : ℕ) (s : Option Stray) (sh : Shared) → (ranged fr r p s sh).stray ≡ s
 unfolding ranged exchange
 ranged-stray fr r p s sh = picked (λ (o : Out). o.stray ≡ s) (user fr && eqb r.ior 1) refl refl
 
-finish-stray : (st : State) (w : Work) (s : Stray) (r : Registers) (sh : Shared) → (finish st w s r sh).stray ≡ s
+finish-stray : (st : State) (w : Work) (s : Option Stray) (r : Registers) (sh : Shared) → (finish st w s r sh).stray ≡ s
 unfolding finish exchange
 finish-stray st work.PastOne s r sh = refl
 finish-stray st work.PastTwo s r sh = refl
@@ -140,9 +138,9 @@ stray-of-work st sh =
     finish-stray st d.work d.stray d.registers d.shared
 
 -- of what stands at P: for an instruction the first word outside that its act refers to, else none
-abbrev pub stray_of : State → Shared → Present → Stray
-stray_of st sh has_none = Clean
-stray_of st sh not_held = Clean
+abbrev pub stray_of : State → Shared → Present → Option Stray
+stray_of st sh has_none = None
+stray_of st sh not_held = None
 stray_of st sh (has_instr n x m parcels) =
     outside st.frame sh.mem (act st.registers (status_of st.frame st.registers) x m (onward st.p.0 parcels) n)
 
@@ -158,31 +156,31 @@ stray-of-step st sh = stray-of-work st sh ∙ go (present_of st.frame sh.mem st.
 -- ---- a run
 
 -- a step without a stray leaves the one that was
-pub run-clean : (b : ℕ) (s : Stray) (n : ℕ) (st : State) (sh : Shared) → stops (step_of st sh).answer ≡ false → (step_of st sh).stray ≡ Clean
+pub run-clean : (b : ℕ) (s : Option Stray) (n : ℕ) (st : State) (sh : Shared) → stops (step_of st sh).answer ≡ false → (step_of st sh).stray ≡ None
     → run_of (suc b) s n st sh ≡ run_of b s (n + 1) (step_of st sh).state (step_of st sh).shared
 run-clean b s n st sh e c =
-    run_on b s n st sh e ∙ ap (λ (i : Stray). run_of b (or_else i s) (n + 1) (step_of st sh).state (step_of st sh).shared) c
+    run_on b s n st sh e ∙ ap (λ (i : Option Stray). run_of b (or_else i s) (n + 1) (step_of st sh).state (step_of st sh).shared) c
 
 -- a run has the stray of the last of its steps that had one
-pub run-stray : (k : ℕ) (s : Stray) (n : ℕ) (st : State) (sh : Shared) → Goes k st sh → (run_of k s n st sh).stray ≡ last_stray k s st sh
+pub run-stray : (k : ℕ) (s : Option Stray) (n : ℕ) (st : State) (sh : Shared) → Goes k st sh → (run_of k s n st sh).stray ≡ last_stray k s st sh
 run-stray k s n st sh g = ap (λ (e : Ended). e.stray) (run-spent k s n st sh g)
 
 -- the stray of the step after k steps
-abbrev pub next_stray : ℕ → State → Shared → Stray
+abbrev pub next_stray : ℕ → State → Shared → Option Stray
 next_stray k st sh = (step_of (state_after k st sh) (shared_after k st sh)).stray
 
 -- where none had one it is that from before
-pub stray-stays : (k : ℕ) (s : Stray) (st : State) (sh : Shared) → ((i : ℕ) → i < k → next_stray i st sh ≡ Clean) → last_stray k s st sh ≡ s
+pub stray-stays : (k : ℕ) (s : Option Stray) (st : State) (sh : Shared) → ((i : ℕ) → i < k → next_stray i st sh ≡ None) → last_stray k s st sh ≡ s
 stray-stays zero s st sh h = refl
 stray-stays (suc k) s st sh h =
     rw (h 0 (omega arith)) (stray-stays k s (step_of st sh).state (step_of st sh).shared (λ i l. h (suc i) (omega arith)))
 
 -- and else that of the step after which none had one
-pub last-wins : (k j : ℕ) (s : Stray) (st : State) (sh : Shared) (c : Cause) (e : ℕ) → j < k → next_stray j st sh ≡ First c e
-    → ((i : ℕ) → j < i → i < k → next_stray i st sh ≡ Clean) → last_stray k s st sh ≡ First c e
-last-wins zero j s st sh c e l q h = absurd (omega arith)
-last-wins (suc k) zero s st sh c e l q h =
-    rw q (stray-stays k (First c e) (step_of st sh).state (step_of st sh).shared (λ i l. h (suc i) (omega arith) (omega arith)))
-last-wins (suc k) (suc j) s st sh c e l q h =
-    last-wins k j (or_else (step_of st sh).stray s) (step_of st sh).state (step_of st sh).shared c e (omega arith) q
+pub last-wins : (k j : ℕ) (s : Option Stray) (st : State) (sh : Shared) (stray : Stray) → j < k → next_stray j st sh ≡ Some stray
+    → ((i : ℕ) → j < i → i < k → next_stray i st sh ≡ None) → last_stray k s st sh ≡ Some stray
+last-wins zero j s st sh stray l q h = absurd (omega arith)
+last-wins (suc k) zero s st sh stray l q h =
+    rw q (stray-stays k (Some stray) (step_of st sh).state (step_of st sh).shared (λ i l. h (suc i) (omega arith) (omega arith)))
+last-wins (suc k) (suc j) s st sh stray l q h =
+    last-wins k j (or_else (step_of st sh).stray s) (step_of st sh).state (step_of st sh).shared stray (omega arith) q
     (λ i a b. h (suc i) (omega arith) (omega arith))

@@ -7,13 +7,12 @@ use native.Mathlib.Omega.{arith}
 use native.Mathlib.Decide.{dec_le, dec_lt}
 use lib.ListN.{length, get_or}
 use lib.Seq.{ext_get_or}
+use Rattle.std.specs.Prelude.{Some, None, Ok}
 use Rattle.machine.specs.declared.Answer.TheVariants.{Stepped}
-use Rattle.machine.specs.declared.Last.{Last}
-use Rattle.machine.specs.declared.Last.TheVariants as last
 use Rattle.machine.specs.State.{Frame, State, Shared, sharing}
 use Rattle.machine.specs.Memory.{Field, data_field}
 use Rattle.machine.specs.Step.{step_of}
-use Rattle.machine.specs.Run.{zeros, Half, half, half_after, PairEnded, pair_of}
+use Rattle.machine.specs.Run.{Last, zeros, Half, half, half_after, PairEnded, pair_of}
 use Rattle.theorems.proofs.Counted.{shared_after}
 use Rattle.theorems.specs.Statement.{In, Own, Neither, Agree, Apart, firsts, seconds, one_bytes, together, Smooth, AsAlone, Demand3}
 use Rattle.theorems.proofs.Agree.{Only, itself, flip, chain, weaken, other}
@@ -24,22 +23,22 @@ use Rattle.theorems.proofs.Walk.{Steps, SameWalk, walk_same, later, later_same, 
 module _ (bytes : List ℕ) (l : Last) (d : ℕ) (x y : Half) (sh : Shared) where
   turn-first : (step_of x.state sh).answer ≡ Stepped
       → pair_of (zero ∷ bytes) l d x y sh
-      ≡ pair_of bytes (last.Was Stepped) (d + 1) (half_after x (step_of x.state sh)) y (step_of x.state sh).shared
+      ≡ pair_of bytes (Ok (Some Stepped)) (d + 1) (half_after x (step_of x.state sh)) y (step_of x.state sh).shared
   unfolding pair_of
   turn-first e = rw e
 
   turn-second : (b : ℕ) → (step_of y.state sh).answer ≡ Stepped
       → pair_of (suc b ∷ bytes) l d x y sh
-      ≡ pair_of bytes (last.Was Stepped) (d + 1) x (half_after y (step_of y.state sh)) (step_of y.state sh).shared
+      ≡ pair_of bytes (Ok (Some Stepped)) (d + 1) x (half_after y (step_of y.state sh)) (step_of y.state sh).shared
   unfolding pair_of
   turn-second b e = rw e
 
 -- the last answer after n steps
 abbrev last_of : Last → ℕ → Last
 last_of l zero = l
-last_of l (suc n) = last.Was Stepped
+last_of l (suc n) = Ok (Some Stepped)
 
-last-stepped : (n : ℕ) → last_of (last.Was Stepped) n ≡ last.Was Stepped
+last-stepped : (n : ℕ) → last_of (Ok (Some Stepped)) n ≡ Ok (Some Stepped)
 last-stepped zero = refl
 last-stepped (suc n) = refl
 
@@ -103,7 +102,7 @@ module _ (fr gr : Frame) (len : ℕ) (apart : Apart fr gr len) where
       let t = turn-first bytes l d x y sh s.0 in
       let k = moves fr x.state len sh e n s.0 in
       let n' = k.long ∙ n in
-      let u = ih (last.Was Stepped) (d + 1) (half_after x o) y o.shared (step-frame x.state sh s.0 ∙ e) g n' s.1 in
+      let u = ih (Ok (Some Stepped)) (d + 1) (half_after x o) y o.shared (step-frame x.state sh s.0 ∙ e) g n' s.1 in
       let v = repeat gr y.state len (seconds bytes) o.shared sh g n' (other not-y k (itself sh.mem)) u.steps-y in
       record {
         steps-x = (s.0, u.steps-x);
@@ -124,7 +123,7 @@ module _ (fr gr : Frame) (len : ℕ) (apart : Apart fr gr len) where
       let t = turn-second bytes l d x y sh b s.0 in
       let k = moves gr y.state len sh g n s.0 in
       let n' = k.long ∙ n in
-      let u = ih (last.Was Stepped) (d + 1) x (half_after y o) o.shared e (step-frame y.state sh s.0 ∙ g) n' s.1 in
+      let u = ih (Ok (Some Stepped)) (d + 1) x (half_after y o) o.shared e (step-frame y.state sh s.0 ∙ g) n' s.1 in
       let v = repeat fr x.state len (firsts bytes) o.shared sh e n' (other not-x k (itself sh.mem)) u.steps-x in
       record {
         steps-x = v.steps;
@@ -189,10 +188,10 @@ joined fr gr len m m' a b c =
 -- two schedules of as many steps of each
 alike : (fr gr : Frame) (len : ℕ) (bytes more : List ℕ) (x y : Half) (sh : Shared) (e e' : PairEnded)
     → firsts more ≡ firsts bytes → seconds more ≡ seconds bytes
-    → Parts fr gr len more last.Nothing 0 x y sh e → Parts fr gr len bytes last.Nothing 0 x y sh e' → e ≡ e'
+    → Parts fr gr len more (Ok None) 0 x y sh e → Parts fr gr len bytes (Ok None) 0 x y sh e' → e ≡ e'
 alike fr gr len bytes more x y sh e e' f s a b =
     let n : length more ≡ length bytes = total more ∙ ap₂ ◌+◌ f s ∙ sym (total bytes) in
-    let ends : e.last ≡ e'.last = a.answers ∙ ap (last_of last.Nothing) n ∙ sym b.answers in
+    let ends : e.last ≡ e'.last = a.answers ∙ ap (last_of (Ok None)) n ∙ sym b.answers in
     let steps : e.steps ≡ e'.steps = a.count ∙ ap (λ (n : ℕ). 0 + n) n ∙ sym b.count in
     let first : e.first ≡ e'.first = sym a.later-x ∙ ap (λ (n : ℕ). later n x sh) f ∙ b.later-x in
     let second : e.second ≡ e'.second = sym a.later-y ∙ ap (λ (n : ℕ). later n y sh) s ∙ b.later-y in
@@ -215,9 +214,9 @@ seconds-in-turn zero (suc k) = ap suc (seconds-in-turn zero k)
 seconds-in-turn (suc n) k = seconds-in-turn n k
 
 module _ (bytes : List ℕ) (x y : State) (sh : Shared) (apart : Apart x.frame y.frame (length sh.mem)) (s : Smooth bytes x y sh) where
-  parts : Parts x.frame y.frame (length sh.mem) bytes last.Nothing 0 (half x) (half y) sh (together bytes x y sh)
+  parts : Parts x.frame y.frame (length sh.mem) bytes (Ok None) 0 (half x) (half y) sh (together bytes x y sh)
   unfolding Claim
-  parts = all x.frame y.frame (length sh.mem) apart bytes last.Nothing 0 (half x) (half y) sh refl refl refl s
+  parts = all x.frame y.frame (length sh.mem) apart bytes (Ok None) 0 (half x) (half y) sh refl refl refl s
 
   any-smooth : (more : List ℕ) → firsts more ≡ firsts bytes → seconds more ≡ seconds bytes → Smooth more x y sh
   any-smooth more f g = smooth x.frame y.frame (length sh.mem) apart more x y sh refl refl refl (rw f parts.steps-x) (rw g parts.steps-y)
@@ -226,7 +225,7 @@ module _ (bytes : List ℕ) (x y : State) (sh : Shared) (apart : Apart x.frame y
   unfolding Claim
   any_order more f g =
       alike x.frame y.frame (length sh.mem) bytes more (half x) (half y) sh (together more x y sh) (together bytes x y sh) f g
-      (all x.frame y.frame (length sh.mem) apart more last.Nothing 0 (half x) (half y) sh refl refl refl (any-smooth more f g)) parts
+      (all x.frame y.frame (length sh.mem) apart more (Ok None) 0 (half x) (half y) sh refl refl refl (any-smooth more f g)) parts
 
   first_alone : (sh' : Shared) → Agree (Own x.frame (length sh.mem)) sh.mem sh'.mem
       → AsAlone (firsts bytes) x sh' (together bytes x y sh).first (together bytes x y sh).shared

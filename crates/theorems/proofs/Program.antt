@@ -3,8 +3,8 @@ use Prim.Native.Nat.{ℕ, ◌+◌, ◌*◌, ◌^◌}
 use mathlib.Core.Path.{◌≡◌, refl}
 use mathlib.Core.List.{◌∷◌}
 use lib.ListN.{length, get_or}
+use Rattle.std.specs.Prelude.{None}
 use Rattle.machine.specs.declared.Answer.TheVariants.{Stepped, NotHeld, MonitorFetch}
-use Rattle.machine.specs.declared.Stray.TheVariants.{Clean}
 use Rattle.machine.specs.State.{State, Shared, sharing, addr, apply}
 use Rattle.machine.specs.Memory.{place_of, fetch_of}
 use Rattle.machine.specs.Act.{act}
@@ -35,20 +35,20 @@ unfolding program
 program-first = refl
 
 -- the passes move P on
-pub passes-0 : step_of (at 1 0 0) program ≡ out Stepped Clean (at 1 0 1) program
+pub passes-0 : step_of (at 1 0 0) program ≡ out Stepped None (at 1 0 1) program
 unfolding at step_of finish_of finish work_of present_of decoded done_with fetch_of place_of perform act apply code_of code001
 passes-0 = rw (program-length, program-first)
 
-pub passes-1 : step_of (at 1 0 1) program ≡ out Stepped Clean (at 1 0 2) program
+pub passes-1 : step_of (at 1 0 1) program ≡ out Stepped None (at 1 0 2) program
 unfolding at step_of finish_of finish work_of present_of decoded done_with fetch_of place_of perform act apply code_of code001
 passes-1 = rw (program-length, program-first)
 
 -- then it stops
-pub stops-2 : step_of (at 1 0 2) program ≡ out (NotHeld (addr 2)) Clean (at 1 0 2) program
+pub stops-2 : step_of (at 1 0 2) program ≡ out (NotHeld (addr 2)) None (at 1 0 2) program
 unfolding at step_of finish_of finish work_of present_of decoded done_with fetch_of place_of code_of
 stops-2 = rw (program-length, program-first)
 
 -- and where the field is empty it cannot begin
-pub stops-0 : step_of (at 0 0 0) program ≡ out (MonitorFetch (addr 0)) Clean (at 0 0 0) program
+pub stops-0 : step_of (at 0 0 0) program ≡ out (MonitorFetch (addr 0)) None (at 0 0 0) program
 unfolding at step_of finish_of finish work_of present_of done_with fetch_of place_of no_parcel
 stops-0 = refl

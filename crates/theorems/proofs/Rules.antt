@@ -9,8 +9,7 @@ use lib.ListN.{set}
 use lib.Dec.{eqb}
 use lib.Pow.{pow_pos, low}
 use lib.Count.{count_leading_zeros, ones-ones}
-use Rattle.machine.specs.declared.Fetched.TheVariants.{Parcel}
-use Rattle.machine.specs.declared.Stray.TheVariants.{Clean}
+use Rattle.std.specs.Prelude.{Some, None}
 use Rattle.machine.specs.Word.{pick, sum24, difference24, product24, shift_right, shift_left_pair, shift_right_pair, ones_right, parity, length_of}
 use Rattle.machine.specs.Parcel.{g_of, h_of, i_of, j_of, k_of, jk_of, onward}
 use Rattle.machine.specs.State.{Frame, Registers, sharing, user, aj, ak, si, sj, el, to_v, apply, with_a, with_s, control}
@@ -31,7 +30,7 @@ does fr r p mem x = done_with fr r p (sharing mem) (decoded fr mem p x (code_of 
 
 -- P goes on by n parcels, and nothing else changes but the registers
 abbrev pub leaves : ℕ → List ℕ → Registers → Done
-leaves n mem r = done_past n Clean r (sharing mem)
+leaves n mem r = done_past n None r (sharing mem)
 
 abbrev pub set_a : Registers → ℕ → ℕ → Registers
 set_a r i x = with_a r (set r.a i x)
@@ -98,7 +97,7 @@ module _ (fr : Frame) (r : Registers) (p : ℕ) (mem : List ℕ) (i : ℕ) (is :
       rw (d.g-is, d.h-is, d.i-is, d.j-is, d.k-is)
 
   -- 021i00 and a second parcel of 5
-  pub complement-of-5 : fetch_of fr mem (onward p 1) ≡ Parcel 5 → does fr r p mem (octal 0 2 1 i 0 0) ≡ leaves 2 mem (set_a r i (2 ^ 24 - 6))
+  pub complement-of-5 : fetch_of fr mem (onward p 1) ≡ Some 5 → does fr r p mem (octal 0 2 1 i 0 0) ≡ leaves 2 mem (set_a r i (2 ^ 24 - 6))
   unfolding code_of decoded done_with perform act apply
   complement-of-5 e =
       let d = digits 0 2 1 i 0 0 (omega arith) is (omega arith) (omega arith) in

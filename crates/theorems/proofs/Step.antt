@@ -7,11 +7,9 @@ use mathlib.Core.Bool.{Bool, true, false, ◌&&◌}
 use mathlib.Core.List.{List}
 use lib.ListN.{length}
 use lib.Dec.{eqb}
+use Rattle.std.specs.Prelude.{Option, Some, None}
 use Rattle.machine.specs.declared.ParcelAddr.{ParcelAddr}
-use Rattle.machine.specs.declared.Fetched.{Fetched}
-use Rattle.machine.specs.declared.Fetched.TheVariants.{Parcel, Outside}
 use Rattle.machine.specs.declared.Stray.{Stray}
-use Rattle.machine.specs.declared.Stray.TheVariants.{Clean}
 use Rattle.machine.specs.declared.Work.{Work}
 use Rattle.machine.specs.declared.Work.TheVariants.{PastOne, PastTwo, To, NormalExit, ErrorExit, StrayedOne, StrayedTwo, ProgramRange, NotHeld, MonitorFetch}
 use Rattle.machine.specs.declared.Answer.TheVariants.{Stepped}
@@ -27,7 +25,6 @@ use Rattle.machine.specs.Work.{past, outside, perform, no_parcel, status_of, don
 use Rattle.machine.specs.Exchange.{operand_range}
 use Rattle.machine.specs.Step.{exchange, stepped, ranged, finish, finish_of, step_of}
 use Rattle.laws.proofs.Laws.{work-all}
-use Rattle.theorems.proofs.Answers.{distinct}
 use Rattle.theorems.specs.Statement.{In, Own, Agree}
 use Rattle.theorems.proofs.Agree.{Only, itself, weaken, load-agree, fetch-agree, stores-agree, stores-only}
 
@@ -41,9 +38,9 @@ present-same fr m m' fetched p = rw (fetched p) (go (fetch_of fr m' p))
     parcel x (holds_one n) = refl
     parcel x (holds_two n) = rw (fetched (onward p 1))
 
-    go : (o : Fetched) → with_parcel o (λ x. decoded fr m p x (code_of (user fr) x)) ≡ with_parcel o (λ x. decoded fr m' p x (code_of (user fr) x))
-    go Outside = refl
-    go (Parcel x) = parcel x (code_of (user fr) x)
+    go : (o : Option ℕ) → with_parcel o (λ x. decoded fr m p x (code_of (user fr) x)) ≡ with_parcel o (λ x. decoded fr m' p x (code_of (user fr) x))
+    go None = refl
+    go (Some x) = parcel x (code_of (user fr) x)
 
 -- two works that end alike with the same stray and registers, and memories that agree where P holds
 pub record Same (P : ℕ → Type 0) (d d' : Done) : Type 0 where
@@ -55,7 +52,7 @@ pub record Same (P : ℕ → Type 0) (d d' : Done) : Type 0 where
 -- the work in two memories that agree on the two fields, and perhaps on more
 module _ (fr : Frame) (r : Registers) (P : ℕ → Type 0) (len : ℕ) (own : (w : ℕ) → Own fr len w → P w)
     (sh sh' : Shared) (long : length sh.mem ≡ len) (h : Agree P sh.mem sh'.mem) where
-  idle-same : (w : Work) → Same P (done w Clean r sh) (done w Clean r sh')
+  idle-same : (w : Work) → Same P (done w None r sh) (done w None r sh')
   idle-same w = record { work = refl; stray = refl; registers = refl; mem = h }
 
   perform-same : (parcels : ℕ) (a : Act) → Same P (perform fr r parcels sh a) (perform fr r parcels sh' a)
@@ -112,32 +109,32 @@ work-only fr r p len sh e =
     (λ n x m parcels h. perform-only fr r parcels len sh _ e) (itself sh.mem) (itself sh.mem)
 
 -- a step that stepped is its work, and P goes to q
-abbrev GoesTo : State → Work → Stray → Registers → Type 0
+abbrev GoesTo : State → Work → Option Stray → Registers → Type 0
 GoesTo x w s r = (q : ParcelAddr) × ((sh : Shared) → finish x w s r sh ≡ stepped x.frame r q s sh)
 
 -- an operand outside may end it, as the mode and IOR say
-ranged-next : (fr : Frame) (r : Registers) (p : ℕ) (s : Stray) (sh : Shared) → (ranged fr r p s sh).answer ≡ Stepped
+ranged-next : (fr : Frame) (r : Registers) (p : ℕ) (s : Option Stray) (sh : Shared) → (ranged fr r p s sh).answer ≡ Stepped
     → (i : Shared) → ranged fr r p s i ≡ stepped fr r (addr p) s i
 unfolding ranged exchange
 ranged-next fr r p s sh e i = go (user fr && eqb r.ior 1) e
   where
     go : (t : Bool) → (pick t (exchange fr r p operand_range s sh) (stepped fr r (addr p) s sh)).answer ≡ Stepped
         → pick t (exchange fr r p operand_range s i) (stepped fr r (addr p) s i) ≡ stepped fr r (addr p) s i
-    go true e = absurd (distinct (cc))
+    go true e = cc
     go false e = refl
 
-finish-next : (x : State) (w : Work) (s : Stray) (r : Registers) (sh : Shared) → (finish x w s r sh).answer ≡ Stepped → GoesTo x w s r
+finish-next : (x : State) (w : Work) (s : Option Stray) (r : Registers) (sh : Shared) → (finish x w s r sh).answer ≡ Stepped → GoesTo x w s r
 unfolding finish exchange
 finish-next x PastOne s r sh e = (_, λ i. refl)
 finish-next x PastTwo s r sh e = (_, λ i. refl)
 finish-next x StrayedOne s r sh e = (_, ranged-next x.frame r (onward x.p.0 1) s sh e)
 finish-next x StrayedTwo s r sh e = (_, ranged-next x.frame r (onward x.p.0 2) s sh e)
 finish-next x (To q) s r sh e = (q, λ i. refl)
-finish-next x NormalExit s r sh e = absurd (distinct (cc))
-finish-next x ErrorExit s r sh e = absurd (distinct (cc))
-finish-next x ProgramRange s r sh e = absurd (distinct (cc))
-finish-next x NotHeld s r sh e = absurd (distinct (cc))
-finish-next x MonitorFetch s r sh e = absurd (distinct (cc))
+finish-next x NormalExit s r sh e = cc
+finish-next x ErrorExit s r sh e = cc
+finish-next x ProgramRange s r sh e = cc
+finish-next x NotHeld s r sh e = cc
+finish-next x MonitorFetch s r sh e = cc
 
 abbrev work_at : State → Shared → Done
 work_at x sh = work_of x.frame x.registers x.p.0 sh

@@ -4,8 +4,8 @@ use mathlib.Core.Path.{◌≡◌, refl}
 use mathlib.Core.List.{List, [], ◌∷◌}
 use native.Mathlib.Omega.{arith}
 use lib.ListN.{length, set}
+use Rattle.std.specs.Prelude.{Some, Ok}
 use Rattle.machine.specs.declared.Answer.TheVariants.{Stepped}
-use Rattle.machine.specs.declared.Last.TheVariants.{Was}
 use Rattle.machine.specs.Word.{sum24, sum64, ones_right}
 use Rattle.machine.specs.State.{State, sharing, addr, apply}
 use Rattle.machine.specs.Memory.{place_of, load, store, stores, first_outside, fetch_of}
@@ -59,7 +59,7 @@ apart = record { operands = λ w a b. omega arith; first = λ w a b. omega arith
 -- each of its steps steps, and what it comes to
 pub ends : Smooth schedule first second (sharing memory)
     × (together schedule first second (sharing memory)
-    ≡ pair_ended (Was Stepped) 8 (half (at 0 0 6 (0 ∷ 5 ∷ 10 ∷ 10 ∷ zeros 4) (zeros 8))) (half (at 1 2 6 (zeros 8) (0 ∷ 510 ∷ 510 ∷ zeros 5)))
+    ≡ pair_ended (Ok (Some Stepped)) 8 (half (at 0 0 6 (0 ∷ 5 ∷ 10 ∷ 10 ∷ zeros 4) (zeros 8))) (half (at 1 2 6 (zeros 8) (0 ∷ 510 ∷ 510 ∷ zeros 5)))
     (sharing (set (set memory 35 10) 98 510)))
 unfolding memory zeros pair_of step_of finish_of finish work_of present_of decoded done_with fetch_of place_of perform act apply code_of
     load store stores outside first_outside sum24 sum64 ones_right

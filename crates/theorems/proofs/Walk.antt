@@ -4,9 +4,9 @@ use mathlib.Core.Path.{◌≡◌, refl, ◌∙◌, ap}
 use native.Mathlib.Omega.{arith}
 use native.Mathlib.Nat.{zero-add}
 use lib.ListN.{length}
+use Rattle.std.specs.Prelude.{Option, None}
 use Rattle.machine.specs.declared.Answer.TheVariants.{Stepped}
 use Rattle.machine.specs.declared.Stray.{Stray}
-use Rattle.machine.specs.declared.Stray.TheVariants.{Clean}
 use Rattle.machine.specs.State.{State, Shared}
 use Rattle.machine.specs.Memory.{or_else}
 use Rattle.machine.specs.Step.{step_of}
@@ -28,7 +28,7 @@ steps-go (suc n) x sh s = (rw s.0, steps-go n (step_of x sh).state (step_of x sh
 pub record SameWalk (P : ℕ → Type 0) (n : ℕ) (x : State) (sh sh' : Shared) : Type 0 where
   pub steps : Steps n x sh'
   pub state : state_after n x sh' ≡ state_after n x sh
-  pub stray : (s : Stray) → last_stray n s x sh' ≡ last_stray n s x sh
+  pub stray : (s : Option Stray) → last_stray n s x sh' ≡ last_stray n s x sh
   pub mem : Agree P (shared_after n x sh).mem (shared_after n x sh').mem
 
 pub walk_same : (P : ℕ → Type 0) (len n : ℕ) (x : State) (sh sh' : Shared) → ((w : ℕ) → Own x.frame len w → P w) → length sh.mem ≡ len
@@ -54,7 +54,7 @@ pub later_same : {P : ℕ → Type 0} (n : ℕ) (x : Half) (sh sh' : Shared) →
 later_same n x sh sh' h = λ i. half_with (h.state i) (h.stray x.stray i)
 
 -- a run takes them all
-walk-each : (n k : ℕ) (i : Stray) (d : ℕ) (x : State) (sh : Shared) → Steps n x sh → k < n
+walk-each : (n k : ℕ) (i : Option Stray) (d : ℕ) (x : State) (sh : Shared) → Steps n x sh → k < n
     → (step_of (run_of k i d x sh).state (run_of k i d x sh).shared).answer ≡ Stepped
 unfolding run_of
 walk-each zero k i d x sh s l = absurd (omega arith)
@@ -66,9 +66,9 @@ walk-each (suc n) (suc k) i d x sh s l =
 pub as-alone : (n : ℕ) (x : State) (sh : Shared) (x' : Half) (sh' : Shared) → Steps n x sh → later n (half x) sh ≡ x'
     → Agree (Own x.frame (length sh.mem)) (shared_after n x sh).mem sh'.mem → AsAlone n x sh x' sh'
 as-alone n x sh x' sh' s e h =
-    let r = run-spent n Clean 0 x sh (steps-go n x sh s) in
+    let r = run-spent n None 0 x sh (steps-go n x sh s) in
     record {
-      each = λ k l. walk-each n k Clean 0 x sh s l;
+      each = λ k l. walk-each n k None 0 x sh s l;
       ending = rw r;
       steps = rw r (zero-add n);
       state = rw r (ap (λ (x : Half). x.state) e);

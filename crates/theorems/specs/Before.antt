@@ -1,8 +1,6 @@
 -- The step as it was before it told why an operand lay outside. Assumes nothing.
-use Rattle.std.specs.Prelude.{ℕ, zero, suc, ◌*◌, ◌%◌, ◌^◌, Bool, true, false, ◌&&◌, ◌||◌, List, length, get_or, set, eqb, leb, ltb}
+use Rattle.std.specs.Prelude.{ℕ, zero, suc, ◌*◌, ◌%◌, ◌^◌, Bool, true, false, ◌&&◌, ◌||◌, List, length, get_or, set, eqb, leb, ltb, Option, Some, None}
 use Rattle.machine.specs.declared.ParcelAddr.{ParcelAddr}
-use Rattle.machine.specs.declared.Fetched.{Fetched}
-use Rattle.machine.specs.declared.Fetched.TheVariants as fetched
 use Rattle.machine.specs.declared.Answer.{Answer}
 use Rattle.machine.specs.declared.Answer.TheVariants as answer
 use Rattle.machine.specs.Word.{pick}
@@ -55,11 +53,11 @@ any_outside f at len zero = false
 any_outside f at len (suc n) = any_outside f at len n || is_beyond (old_place f len (at n))
 
 -- the parcel at p, and what stands there
-abbrev pub old_parcel_at : List ℕ → ℕ → Old → Fetched
-old_parcel_at mem p (at_place n) = fetched.Parcel (parcel_of (get_or mem n 0) p)
-old_parcel_at mem p beyond = fetched.Outside
+abbrev pub old_parcel_at : List ℕ → ℕ → Old → Option ℕ
+old_parcel_at mem p (at_place n) = Some (parcel_of (get_or mem n 0) p)
+old_parcel_at mem p beyond = None
 
-abbrev pub old_fetch : Frame → List ℕ → ℕ → Fetched
+abbrev pub old_fetch : Frame → List ℕ → ℕ → Option ℕ
 old_fetch fr mem p = old_parcel_at mem p (old_place (code_field fr) (length mem) (word_of p))
 
 abbrev pub old_decoded : Frame → List ℕ → ℕ → ℕ → Code → Present

@@ -1,11 +1,9 @@
 -- Demand 3: two processors on one memory whose fields are apart, in any order of steps. Assumes nothing.
 -- Said of any step, it would hold of one that does nothing. So it is said of the definitions' own `pair_of` and `run_of`, which
 -- are made of `step_of` and which the code's results have to equal.
-use Rattle.std.specs.Prelude.{ℕ, zero, suc, ◌*◌, ◌≤◌, ◌<◌, ◌≡◌, ◌⊎◌, List, [], ◌∷◌, ◌++◌, length, get_or}
+use Rattle.std.specs.Prelude.{ℕ, zero, suc, ◌*◌, ◌≤◌, ◌<◌, ◌≡◌, ◌⊎◌, List, [], ◌∷◌, ◌++◌, length, get_or, None, Ok}
 use Rattle.machine.specs.declared.Answer.TheVariants.{Stepped}
 use Rattle.machine.specs.declared.Ending.TheVariants as ending
-use Rattle.machine.specs.declared.Last.TheVariants as last
-use Rattle.machine.specs.declared.Stray.TheVariants.{Clean}
 use Rattle.machine.specs.State.{Frame, State, Shared}
 use Rattle.machine.specs.Memory.{Field, code_field, data_field}
 use Rattle.machine.specs.Step.{step_of}
@@ -52,10 +50,10 @@ one_bytes (suc n) = 1 ∷ one_bytes n
 
 -- a pair run from its beginning, and n steps of one processor alone
 abbrev pub together : List ℕ → State → State → Shared → PairEnded
-together bytes x y sh = pair_of bytes last.Nothing 0 (half x) (half y) sh
+together bytes x y sh = pair_of bytes (Ok None) 0 (half x) (half y) sh
 
 abbrev pub alone : ℕ → State → Shared → Ended
-alone n x sh = run_of n Clean 0 x sh
+alone n x sh = run_of n None 0 x sh
 
 -- no step of the schedule exchanges or stops: the processor that a byte names takes a step, and answers that it stepped
 abbrev pub Smooth : List ℕ → State → State → Shared → Type 0
@@ -67,7 +65,7 @@ Smooth (suc b ∷ bytes) x y sh = ((step_of y sh).answer ≡ Stepped) × Smooth 
 -- state and the stray are those of x', and memory has the same words in the processor's own two fields
 pub record AsAlone (n : ℕ) (x : State) (sh : Shared) (x' : Half) (sh' : Shared) : Type 0 where
   pub each : (k : ℕ) → k < n → (step_of (alone k x sh).state (alone k x sh).shared).answer ≡ Stepped
-  pub ending : (alone n x sh).ending ≡ ending.Budget
+  pub ending : (alone n x sh).ending ≡ Ok ending.Budget
   pub steps : (alone n x sh).steps ≡ n
   pub state : (alone n x sh).state ≡ x'.state
   pub stray : (alone n x sh).stray ≡ x'.stray

@@ -10,6 +10,7 @@ use lib.ListN.{length, get_or, drop}
 use lib.Seq.{drop-cons, drop-length}
 use lib.Dec.{eqb}
 use borrow.Author.Tests.{ne_eqb, eq-eqb}
+use Rattle.std.specs.Prelude.{Option, Some, Ok, None}
 use Rattle.machine.specs.declared.ParcelAddr.{ParcelAddr}
 use Rattle.machine.specs.declared.Reach.{Reach}
 use Rattle.machine.specs.declared.Stray.{Stray}
@@ -17,8 +18,7 @@ use Rattle.machine.specs.declared.Work.{Work}
 use Rattle.machine.specs.declared.Work.TheVariants as work
 use Rattle.machine.specs.declared.Answer.{Answer}
 use Rattle.machine.specs.declared.Answer.TheVariants.{Stepped, Exchanged, NotHeld, MonitorFetch}
-use Rattle.machine.specs.declared.Last.{Last}
-use Rattle.machine.specs.declared.Last.TheVariants.{Was}
+use Rattle.machine.specs.Run.{Last}
 use Rattle.machine.specs.Word.{pick}
 use Rattle.machine.specs.State.{State, Shared, sharing, addr}
 use Rattle.machine.specs.Memory.{or_else}
@@ -29,7 +29,6 @@ use Rattle.access.specs.Executed.{told}
 use Rattle.access.proofs.Places.{part_at}
 use Rattle.dispatch.specs.Table.{Ready, Works}
 use Rattle.laws.proofs.Laws.{Narrow}
-use Rattle.turns.specs.declared.Moved.TheVariants.{At, Ends}
 use Rattle.turns.specs.declared.pair.Next.{Next}
 use Rattle.turns.specs.declared.pair.PairBurst.{PairBurst}
 use Rattle.turns.specs.declared.pair.Told.{Told}
@@ -41,7 +40,7 @@ use Rattle.turns.proofs.Runs.{untold, finish-fine, stands, fine-at}
 use Rattle.turns.proofs.Lent.{part-long}
 
 -- with both P in their places, a run and its end are the same seen from either side
-module _ (at : ℕ) (side : Side at) (l : Last) (n : ℕ) (s t : Stray) (pair : List ℕ) (sh : Shared) where
+module _ (at : ℕ) (side : Side at) (l : Last) (n : ℕ) (s t : Option Stray) (pair : List ℕ) (sh : Shared) where
   run-in-order : (bytes : List ℕ)
       → pair_at at bytes l n (half_with (state_of (part at 672 pair)) (here at s t)) (other at s t pair) sh
       ≡ pair_of bytes l n (half_with (first_of pair) s) (half_with (second_of pair) t) sh
@@ -110,7 +109,7 @@ module _ (a : Next) (f g : Reach) (pair pair' : List ℕ) (side : Side a.at) (wh
       ⊎_elim (λ e. record { first = rw e at x; second = rw e at y; narrow = (rw e at p, rw e at q) })
       (λ e. record { first = rw e at y; second = rw e at x; narrow = (rw e at q, rw e at p) }) side.1
 
-  same-run : (bytes : List ℕ) (l : Last) (n : ℕ) (s t : Stray) (sh : Shared)
+  same-run : (bytes : List ℕ) (l : Last) (n : ℕ) (s t : Option Stray) (sh : Shared)
       → pair_of bytes l n (half_with (first_of pair') s) (half_with (second_of pair') t) sh ≡ pair_from a bytes l n s t pair sh
   same-run bytes l n s t sh = sym (run-in-order a.at side l n s t pair' sh bytes) ∙ rw (stored, kept)
 
@@ -145,7 +144,7 @@ pub record Along (schedule : List ℕ) (from : ℕ) (pair₀ mem₀ pair mem : L
   pub long : length mem ≡ length mem₀
   pub least : 4096 ≤ length mem₀
   pub named : a.at ≡ side_of a.byte
-  pub rest : (s t : Stray) → pair_from a (drop n schedule) (last_after n) n s t pair (sharing mem)
+  pub rest : (s t : Option Stray) → pair_from a (drop n schedule) (last_after n) n s t pair (sharing mem)
       ≡ pair_of (drop from schedule) (last_after from) from (half_with (first_of pair₀) s) (half_with (second_of pair₀) t) (sharing mem₀)
   pub stands : Standing a f g pair (length mem)
 
@@ -203,15 +202,15 @@ module _ (schedule : List ℕ) (from : ℕ) (pair₀ mem₀ pair pair' mem mem' 
   stands-there : Ready (part (672 - a.at) 672 pair') (window_of (672 - a.at) f g) (length mem')
   stands-there = rw (kept, after.0) stood.there
 
-  one : (s t : Stray) → pair_from a (drop n schedule) (last_after n) n s t pair (sharing mem)
+  one : (s t : Option Stray) → pair_from a (drop n schedule) (last_after n) n s t pair (sharing mem)
       ≡ pair_after a.at (drop (n + 1) schedule) n (step_of (state_at a.p (part a.at 672 pair)) (sharing mem)) (own a.at a.p s t pair) (other a.at s t pair)
   one s t = pair_one schedule n a.at (last_after n) n (own a.at a.p s t pair) (other a.at s t pair) (sharing mem) some h.1
 
-  pub goes_on_lem : (q : ParcelAddr) → moved_to a.p.0 w ≡ At q
+  pub goes_on_lem : (q : ParcelAddr) → moved_to a.p.0 w ≡ Some q
       → Along schedule from pair₀ mem₀ pair' mem' f g (record { at = a.at; p = q; f = a.f; byte = a.byte }) (n + 1)
   goes_on_lem q e =
       let k : n + 1 ≡ suc n = omega arith in
-      let more : last_after (n + 1) ≡ Was Stepped = ap last_after k in
+      let more : last_after (n + 1) ≡ Ok (Some Stepped) = ap last_after k in
       record {
         within = omega (arith, some);
         begun = omega (arith, h.0.begun);
@@ -230,7 +229,7 @@ module _ (schedule : List ℕ) (from : ℕ) (pair₀ mem₀ pair pair' mem mem' 
         };
       }
 
-  pub ends : moved_to a.p.0 w ≡ Ends → PairBursts a.at a.p n w schedule from pair₀ pair' mem₀ mem'
+  pub ends : moved_to a.p.0 w ≡ None → PairBursts a.at a.p n w schedule from pair₀ pair' mem₀ mem'
   ends e =
       let ne : eqb n (length schedule) ≡ false = ne_eqb n (length schedule) (λ z. omega (arith, some)) in
       let l : 4096 ≤ length mem' = omega (arith, after.0, h.0.long, h.0.least) in
@@ -307,10 +306,10 @@ turned-out whole len schedule pair pair' mem b o n l h more stored kept c q =
     ∙ rw (stored, kept) (rw (eq-eqb b.steps (length schedule) e) at h.rest))
 
 -- the step after a burst ended: its answer, its stray, and what it left
-module _ (whole : PairEnded) (len : ℕ) (schedule pair pair' mem mem' : List ℕ) (b : PairBurst) (o o' : Told) (a : Answer) (s : Stray)
+module _ (whole : PairEnded) (len : ℕ) (schedule pair pair' mem mem' : List ℕ) (b : PairBurst) (o o' : Told) (a : Answer) (s : Option Stray)
     (h : Turning whole len schedule pair mem b o) (some : b.steps < length schedule)
     (strayed : s ≡ told b.work (part b.at 672 pair) (length mem))
-    (ended : (s : Stray) → out a s (state_of (part b.at 672 pair')) (sharing mem')
+    (ended : (s : Option Stray) → out a s (state_of (part b.at 672 pair')) (sharing mem')
     ≡ finish (state_at b.p (part b.at 672 pair)) b.work s (registers_of (part b.at 672 pair)) (sharing mem))
     (kept : part (672 - b.at) 672 pair' ≡ part (672 - b.at) 672 pair) (size : length pair' ≡ 1344)
     (told-first : o'.first ≡ pick (eqb b.at 0) (or_else s o.first) o.first)
@@ -342,9 +341,9 @@ module _ (whole : PairEnded) (len : ℕ) (schedule pair pair' mem mem' : List �
 
   -- it was the last
   pub last_step : goes false a ≡ false
-      → pair_ended (Was a) (b.steps + counted a) (half_with (first_of pair') o'.first) (half_with (second_of pair') o'.second) (sharing mem') ≡ whole
+      → pair_ended (Ok (Some a)) (b.steps + counted a) (half_with (first_of pair') o'.first) (half_with (second_of pair') o'.second) (sharing mem') ≡ whole
   last_step g =
-      end-in-order b.at h.coming.side (Was a) (b.steps + counted a) o'.first o'.second pair' (sharing mem')
+      end-in-order b.at h.coming.side (Ok (Some a)) (b.steps + counted a) o'.first o'.second pair' (sharing mem')
       ∙ rw (newer-own, same-other, kept) (rw (ends-here a g) at follows)
     where
       ends-here : (a : Answer) → goes false a ≡ false → goes_on a ≡ false
@@ -382,9 +381,9 @@ module _ (whole : PairEnded) (len : ℕ) (schedule pair pair' mem mem' : List �
       (half_with (second_of pair') o'.second) (sharing mem') ≡ whole
   next-step g =
       let k : b.steps + 1 ≡ suc b.steps = omega arith in
-      let more : last_after (b.steps + 1) ≡ Was Stepped = ap last_after k in
+      let more : last_after (b.steps + 1) ≡ Ok (Some Stepped) = ap last_after k in
       let e : a ≡ Stepped = stepped a g in
-      rw more (sym (run-in-order b.at h.coming.side (Was Stepped) (b.steps + 1) o'.first o'.second pair' (sharing mem') (drop (b.steps + 1) schedule))
+      rw more (sym (run-in-order b.at h.coming.side (Ok (Some Stepped)) (b.steps + 1) o'.first o'.second pair' (sharing mem') (drop (b.steps + 1) schedule))
       ∙ rw (newer-own, same-other, kept) (rw e at follows))
     where
       stepped : (a : Answer) → goes false a ≡ true → a ≡ Stepped

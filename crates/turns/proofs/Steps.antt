@@ -8,16 +8,15 @@ use lib.ListN.{length, get_or, set}
 use lib.Seq.{get_or-set_same}
 use lib.Dec.{eqb}
 use borrow.Author.Tests.{ne_eqb, eq-eqb}
+use Rattle.std.specs.Prelude.{Option, Some, None, Ok}
 use Rattle.machine.specs.declared.ParcelAddr.{ParcelAddr}
 use Rattle.machine.specs.declared.Reach.{Reach}
 use Rattle.machine.specs.declared.Stray.{Stray}
-use Rattle.machine.specs.declared.Stray.TheVariants.{Clean}
 use Rattle.machine.specs.declared.Work.{Work}
 use Rattle.machine.specs.declared.Work.TheVariants as work
 use Rattle.machine.specs.declared.Answer.{Answer}
 use Rattle.machine.specs.declared.Answer.TheVariants.{Stepped, Exchanged, NotHeld, MonitorFetch}
-use Rattle.machine.specs.declared.Last.{Last}
-use Rattle.machine.specs.declared.Last.TheVariants.{Was}
+use Rattle.machine.specs.Run.{Last}
 use Rattle.machine.specs.Word.{pick}
 use Rattle.machine.specs.Parcel.{onward}
 use Rattle.machine.specs.State.{State, Registers, Frame, Shared, sharing, addr, user}
@@ -29,14 +28,13 @@ use Rattle.access.specs.Executed.{told}
 use Rattle.access.proofs.Places.{p-puts}
 use Rattle.dispatch.specs.Table.{Ready, Works}
 use Rattle.laws.proofs.Laws.{Narrow, Idle, work-p, work-ok, work-length, work-idle}
-use Rattle.turns.specs.declared.Moved.TheVariants.{At, Ends}
 use Rattle.turns.specs.Turn.{state_at, moved_to, steps_of, steps_after, last_from, last_after, end_of, Bursts, Fitting}
 
 distinct : {A : Type 0} → ◌≡◌ {A = ℕ} 0 1 → A
 distinct e = absurd (omega arith)
 
 -- work that only steps: the step's answer, and where P goes; it has no stray
-finish-moved : (st : State) (w : Work) (s : Stray) (r : Registers) (sh : Shared) (q : ParcelAddr) → moved_to st.p.0 w ≡ At q
+finish-moved : (st : State) (w : Work) (s : Option Stray) (r : Registers) (sh : Shared) (q : ParcelAddr) → moved_to st.p.0 w ≡ Some q
     → finish st w s r sh ≡ out Stepped s (record { p = q; registers = r; frame = st.frame }) sh
 unfolding finish
 finish-moved st work.PastOne s r sh q e = let z : addr (onward st.p.0 1) ≡ q = cc in rw z
@@ -50,7 +48,7 @@ finish-moved st work.ProgramRange s r sh q e = distinct (cc)
 finish-moved st work.NotHeld s r sh q e = distinct (cc)
 finish-moved st work.MonitorFetch s r sh q e = distinct (cc)
 
-told_moved : (p : ℕ) (w : Work) (r : List ℕ) (len : ℕ) (q : ParcelAddr) → moved_to p w ≡ At q → told w r len ≡ Clean
+told_moved : (p : ℕ) (w : Work) (r : List ℕ) (len : ℕ) (q : ParcelAddr) → moved_to p w ≡ Some q → told w r len ≡ None
 told_moved p work.PastOne r len q e = refl
 told_moved p work.PastTwo r len q e = refl
 told_moved p (work.To q') r len q e = refl
@@ -63,7 +61,7 @@ told_moved p work.NotHeld r len q e = refl
 told_moved p work.MonitorFetch r len q e = refl
 
 -- work that does more: of the state before only P, the frame and, where nothing was done, the registers count
-finish-same : (fr : Frame) (p : ParcelAddr) (r r' : Registers) (w : Work) (s : Stray) (sh : Shared) → moved_to p.0 w ≡ Ends → (Idle w → r ≡ r')
+finish-same : (fr : Frame) (p : ParcelAddr) (r r' : Registers) (w : Work) (s : Option Stray) (sh : Shared) → moved_to p.0 w ≡ None → (Idle w → r ≡ r')
     → finish (record { p = p; registers = r; frame = fr }) w s r' sh ≡ finish (record { p = p; registers = r'; frame = fr }) w s r' sh
 unfolding finish
 finish-same fr p r r' work.PastOne s sh e h = distinct (cc)
@@ -83,19 +81,19 @@ module _ (w : Work) (r r' mem mem' : List ℕ) (p : ParcelAddr) (did : Works w r
   unfolding step_of finish_of
   step_is = rw (← did.done)
 
-  pub steps_on : (q : ParcelAddr) → moved_to p.0 w ≡ At q → step_of (state_at p r) (sharing mem) ≡ out Stepped Clean (state_at q r') (sharing mem')
+  pub steps_on : (q : ParcelAddr) → moved_to p.0 w ≡ Some q → step_of (state_at p r) (sharing mem) ≡ out Stepped None (state_at q r') (sharing mem')
   steps_on q e =
       step_is ∙ finish-moved (state_at p r) w (told w r' (length mem')) (registers_of r') (sharing mem') q e
       ∙ rw (told_moved p.0 w r' (length mem') q e, did.frame)
 
   idle-same : Idle w → registers_of r ≡ registers_of r'
   idle-same i =
-      let e : work_of (frame_of r) (registers_of r) p.0 (sharing mem) ≡ done w Clean (registers_of r) (sharing mem)
+      let e : work_of (frame_of r) (registers_of r) p.0 (sharing mem) ≡ done w None (registers_of r) (sharing mem)
       = work-idle (frame_of r) (registers_of r) p.0 (sharing mem) (rw (← did.done)) i in
       ap (λ (d : Done). d.registers) (sym e ∙ sym did.done)
 
   -- a step that does more than step, as its end finds it
-  pub steps-last : moved_to p.0 w ≡ Ends → step_of (state_at p r) (sharing mem) ≡ end_of p w r' mem'
+  pub steps-last : moved_to p.0 w ≡ None → step_of (state_at p r) (sharing mem) ≡ end_of p w r' mem'
   steps-last e =
       step_is
       ∙ rw did.frame (finish-same (frame_of r) p (registers_of r) (registers_of r') w (told w r' (length mem')) (sharing mem') e idle-same)
@@ -116,7 +114,7 @@ module _ (w : Work) (r r' mem mem' : List ℕ) (p : ParcelAddr) (did : Works w r
       )
 
 -- where P goes is an address
-pub narrow_at : (w : Work) (p q : ParcelAddr) → moved_to p.0 w ≡ At q → Narrow w → q.0 < 2 ^ 24
+pub narrow_at : (w : Work) (p q : ParcelAddr) → moved_to p.0 w ≡ Some q → Narrow w → q.0 < 2 ^ 24
 narrow_at work.PastOne p q e h = let z : addr (onward p.0 1) ≡ q = cc in rw (← z) (omega arith)
 narrow_at work.PastTwo p q e h = let z : addr (onward p.0 2) ≡ q = cc in rw (← z) (omega arith)
 narrow_at (work.To p') p q e h = let z : p' ≡ q = cc in rw (← z) h
@@ -133,7 +131,7 @@ pub fits : (r : List ℕ) (f : Reach) (len : ℕ) → Ready r f len → 4096 ≤
 fits r f len k l = record { long = k.long; frame = k.frame; control = k.control; processor = k.processor; least = l; most = k.reaches.size }
 
 -- one step with budget left
-steps-one : (through : Bool) (left : ℕ) (l : Last) (s : Stray) (n : ℕ) (st : State) (sh : Shared) → (left ≡ 0 → ⊥)
+steps-one : (through : Bool) (left : ℕ) (l : Last) (s : Option Stray) (n : ℕ) (st : State) (sh : Shared) → (left ≡ 0 → ⊥)
     → steps_of through left l s n st sh ≡ steps_after through (left - 1) s n (step_of st sh)
 unfolding steps_of
 steps-one through zero l s n st sh h = absurd (h refl)
@@ -145,7 +143,7 @@ pub record Going (r₀ mem₀ r mem : List ℕ) (f : Reach) (from p : ParcelAddr
   pub narrow : p.0 < 2 ^ 24
   pub ready : Ready r f (length mem)
   pub long : length mem ≡ length mem₀
-  pub rest : (through : Bool) (l : Last) (s : Stray) (m : ℕ)
+  pub rest : (through : Bool) (l : Last) (s : Option Stray) (m : ℕ)
       → steps_of through left (last_from l (budget - left)) s (m + (budget - left)) (state_at p r) (sharing mem)
       ≡ steps_of through budget l s m (state_at from r₀) (sharing mem₀)
 
@@ -158,7 +156,7 @@ begins r mem f from budget h l =
 -- a step at p whose work is w, leaving r' and mem'
 module _ (r₀ mem₀ r mem r' mem' : List ℕ) (f : Reach) (from p : ParcelAddr) (budget left : ℕ) (w : Work)
     (g : Going r₀ mem₀ r mem f from p budget left) (some : left ≡ 0 → ⊥) (did : Works w r r' mem mem' p.0) (long : length r' ≡ 672) where
-  pub goes_on_lem : (q : ParcelAddr) → moved_to p.0 w ≡ At q → Going r₀ mem₀ r' mem' f from q budget (left - 1)
+  pub goes_on_lem : (q : ParcelAddr) → moved_to p.0 w ≡ Some q → Going r₀ mem₀ r' mem' f from q budget (left - 1)
   goes_on_lem q e =
       let k = ready_on w r r' mem mem' p did f g.ready long in
       let n : budget - (left - 1) ≡ suc (budget - left) = omega (arith, some, g.within) in
@@ -173,7 +171,7 @@ module _ (r₀ mem₀ r mem r' mem' : List ℕ) (f : Reach) (from p : ParcelAddr
             ∙ rw (steps_on w r r' mem mem' p did q e)) ∙ g.rest through l s m);
       }
 
-  pub ends : moved_to p.0 w ≡ Ends → Bursts p (budget - left) w r₀ r' mem₀ mem' f from budget
+  pub ends : moved_to p.0 w ≡ None → Bursts p (budget - left) w r₀ r' mem₀ mem' f from budget
   ends e =
       let k = ready_on w r r' mem mem' p did f g.ready long in
       let n : eqb (budget - left) budget ≡ false = ne_eqb (budget - left) budget (λ z. some (omega (arith, g.within))) in
@@ -206,12 +204,12 @@ spent r₀ mem₀ r mem f from p budget left g e =
 pub set_p : (p : ParcelAddr) (r : List ℕ) → length r ≡ 672 → state_of (set r 0 p.0) ≡ state_at p r
 set_p p r long = let k = p-puts r p.0 in rw (get_or-set_same r 0 p.0 0 (omega arith), k.0, k.1)
 
-pub some_after : (n : ℕ) → (n ≡ 0 → ⊥) → Was Stepped ≡ last_after n
+pub some_after : (n : ℕ) → (n ≡ 0 → ⊥) → Ok (Some Stepped) ≡ last_after n
 some_after zero h = absurd (h refl)
 some_after (suc n) h = refl
 
 -- after an operand outside: MM clear and IOR set, or not
-module _ (r : List ℕ) (p : ℕ) (s : Stray) (sh : Shared) where
+module _ (r : List ℕ) (p : ℕ) (s : Option Stray) (sh : Shared) where
   pub ranged-leaves : get_or r 8 0 ≡ 0 → eqb (get_or r 9 0) 1 ≡ true → ranged (frame_of r) (registers_of r) p s sh ≡ exchange
       (frame_of r) (registers_of r) p operand_range s sh
   unfolding ranged frame_of registers_of

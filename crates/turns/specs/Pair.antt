@@ -1,11 +1,10 @@
 -- A pair run on the words of two processors in one list. Assumes nothing.
-use Rattle.std.specs.Prelude.{ℕ, zero, suc, ◌+◌, ◌-◌, ◌^◌, ◌<◌, ◌≤◌, ◌≡◌, ◌⊎◌, List, length, get_or, drop, eqb}
+use Rattle.std.specs.Prelude.{ℕ, zero, suc, ◌+◌, ◌-◌, ◌^◌, ◌<◌, ◌≤◌, ◌≡◌, ◌⊎◌, List, length, get_or, drop, eqb, Option, Some, Ok}
 use Rattle.machine.specs.declared.ParcelAddr.{ParcelAddr}
 use Rattle.machine.specs.declared.Reach.{Reach}
 use Rattle.machine.specs.declared.Stray.{Stray}
 use Rattle.machine.specs.declared.Work.{Work}
-use Rattle.machine.specs.declared.Last.{Last}
-use Rattle.machine.specs.declared.Last.TheVariants.{Was}
+use Rattle.machine.specs.Run.{Last}
 use Rattle.machine.specs.Word.{pick}
 use Rattle.machine.specs.State.{Shared, sharing}
 use Rattle.machine.specs.Step.{Out, goes_on, counted}
@@ -30,10 +29,10 @@ abbrev pub window_of : ℕ → Reach → Reach → Reach
 window_of at f g = pick (eqb at 0) f g
 
 -- of the strays of the first and the second that of the one at `at`, and the other's
-abbrev pub here : ℕ → Stray → Stray → Stray
+abbrev pub here : ℕ → Option Stray → Option Stray → Option Stray
 here at s t = pick (eqb at 0) s t
 
-abbrev pub there : ℕ → Stray → Stray → Stray
+abbrev pub there : ℕ → Option Stray → Option Stray → Option Stray
 there at s t = pick (eqb at 0) t s
 
 -- a pair run and its end where x is the one at `at`, y the other
@@ -46,18 +45,18 @@ end_at at l n x y sh = pick (eqb at 0) (pair_ended l n x y sh) (pair_ended l n y
 -- what follows a step of the one at `at`, n having been counted before it
 abbrev pub pair_after : ℕ → List ℕ → ℕ → Out → Half → Half → PairEnded
 pair_after at bytes n o x y =
-    pick (goes_on o.answer) (pair_at at bytes (Was o.answer) (n + counted o.answer) (half_after x o) y o.shared)
-    (end_at at (Was o.answer) (n + counted o.answer) (half_after x o) y o.shared)
+    pick (goes_on o.answer) (pair_at at bytes (Ok (Some o.answer)) (n + counted o.answer) (half_after x o) y o.shared)
+    (end_at at (Ok (Some o.answer)) (n + counted o.answer) (half_after x o) y o.shared)
 
 -- the two of a pair's words, P of the one at `at` being p; s and t are the strays of the first and the second
-abbrev pub own : ℕ → ParcelAddr → Stray → Stray → List ℕ → Half
+abbrev pub own : ℕ → ParcelAddr → Option Stray → Option Stray → List ℕ → Half
 own at p s t pair = half_with (state_at p (part at 672 pair)) (here at s t)
 
-abbrev pub other : ℕ → Stray → Stray → List ℕ → Half
+abbrev pub other : ℕ → Option Stray → Option Stray → List ℕ → Half
 other at s t pair = half_with (state_of (part (672 - at) 672 pair)) (there at s t)
 
 -- the rest of a pair run; P of the one whose step is next is not in its place
-abbrev pub pair_from : Next → List ℕ → Last → ℕ → Stray → Stray → List ℕ → Shared → PairEnded
+abbrev pub pair_from : Next → List ℕ → Last → ℕ → Option Stray → Option Stray → List ℕ → Shared → PairEnded
 pair_from a bytes l n s t pair sh = pair_at a.at bytes l n (own a.at a.p s t pair) (other a.at s t pair) sh
 
 -- both may go on in a memory of len words; f and g are what they reach
@@ -72,7 +71,7 @@ pub record Standing (a : Next) (f g : Reach) (pair : List ℕ) (len : ℕ) : Typ
 -- whose step is next passes from a to b: both may go on as before, and the pair run is the same
 pub record Passes (a b : Next) (f g : Reach) (pair pair' : List ℕ) : Type 0 where
   pub stands : (len : ℕ) → Standing a f g pair len → Standing b f g pair' len
-  pub same : (bytes : List ℕ) (l : Last) (n : ℕ) (s t : Stray) (sh : Shared) → pair_from b bytes l n s t pair' sh ≡ pair_from a bytes l n s t pair sh
+  pub same : (bytes : List ℕ) (l : Last) (n : ℕ) (s t : Option Stray) (sh : Shared) → pair_from b bytes l n s t pair' sh ≡ pair_from a bytes l n s t pair sh
 
 -- both fit a memory of len words, their P in their places
 pub record Both (pair : List ℕ) (len : ℕ) : Type 0 where
@@ -82,7 +81,7 @@ pub record Both (pair : List ℕ) (len : ℕ) : Type 0 where
 
 -- what is left of a schedule after n of its steps, which came to p of the one at `at`: nothing, or all that follows the next step, whose work
 -- ended with w
-abbrev pub came_end : List ℕ → ℕ → ParcelAddr → ℕ → Work → Stray → Stray → List ℕ → List ℕ → PairEnded
+abbrev pub came_end : List ℕ → ℕ → ParcelAddr → ℕ → Work → Option Stray → Option Stray → List ℕ → List ℕ → PairEnded
 came_end schedule at p n w s t pair mem =
     pick (eqb n (length schedule)) (end_at at (last_after n) n (own at p s t pair) (other at s t pair) (sharing mem))
     (pair_after at (drop (n + 1) schedule) n (end_of p w (part at 672 pair) mem) (own at p s t pair) (other at s t pair))
@@ -101,5 +100,5 @@ pub record PairBursts (at : ℕ) (p : ParcelAddr) (n : ℕ) (w : Work) (schedule
   pub coming : Coming at p n w schedule pair' mem'
   pub long : length mem' ≡ length mem
   pub least : from ≤ n
-  pub run : (s t : Stray) → came_end schedule at p n w s t pair' mem'
+  pub run : (s t : Option Stray) → came_end schedule at p n w s t pair' mem'
       ≡ pair_of (drop from schedule) (last_after from) from (half_with (first_of pair) s) (half_with (second_of pair) t) (sharing mem)

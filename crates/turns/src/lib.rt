@@ -4,11 +4,9 @@
 pub mod pair;
 pub mod run;
 
-ghost use Rattle.std.specs.Prelude.{◌≡◌, ◌^◌, ◌<◌, ◌≤◌, length, get_or};
+ghost use Rattle.std.specs.Prelude.{◌≡◌, ◌^◌, ◌<◌, ◌≤◌, length, get_or, Option, None, Ok};
 ghost use Rattle.machine.specs.declared.Answer.TheVariants.{Exchanged};
 ghost use Rattle.machine.specs.declared.Stray.{Stray};
-ghost use Rattle.machine.specs.declared.Stray.TheVariants.{Clean};
-ghost use Rattle.machine.specs.declared.Last.TheVariants.{Nothing};
 ghost use Rattle.machine.specs.State.{sharing};
 ghost use Rattle.machine.specs.Step.{out, in_user_mode, exchange, ranged, finish, counted};
 ghost use Rattle.machine.specs.Run.{turned, turn_of};
@@ -17,7 +15,7 @@ ghost use Rattle.dispatch.specs.Table.{Ready};
 ghost use Rattle.laws.proofs.Laws.{Narrow};
 ghost use Rattle.turns.specs.Turn.{state_at, moved_to, strays_of, goes, last_goes, steps_of, last_after, Bursts, Fitting, Comes, Sound, Strayed, Ended};
 
-use machine::{Answer, Last, ParcelAddr, Reach, Stray, Work};
+use machine::{Answer, ParcelAddr, Reach, Stray, Words, Work};
 
 // The flags of an exchange.
 const NORMAL_EXIT: u64 = 1;
@@ -28,28 +26,21 @@ const PROGRAM_RANGE: u64 = 4;
 
 const OPERAND_RANGE: u64 = 8;
 
-// Where P goes after work that only steps, or that it does more.
-#[derive(Clone, Copy)]
-pub enum Moved {
-    At(ParcelAddr),
-    Ends,
-}
-
-// P moves here alone.
-fn move_p(p: ParcelAddr, w: Work) -> Moved
+// Where P goes after work that only steps; none where it does more. P moves here alone.
+fn move_p(p: ParcelAddr, w: Work) -> Option<ParcelAddr>
     ensures { result ≡ moved_to p.0 w }
 {
     match w {
-        Work::PastOne => Moved::At(access::on(p, 1)),
-        Work::PastTwo => Moved::At(access::on(p, 2)),
-        Work::To(target) => Moved::At(target),
-        Work::NormalExit => Moved::Ends,
-        Work::ErrorExit => Moved::Ends,
-        Work::StrayedOne => Moved::Ends,
-        Work::StrayedTwo => Moved::Ends,
-        Work::ProgramRange => Moved::Ends,
-        Work::NotHeld => Moved::Ends,
-        Work::MonitorFetch => Moved::Ends,
+        Work::PastOne => Some(access::on(p, 1)),
+        Work::PastTwo => Some(access::on(p, 2)),
+        Work::To(target) => Some(target),
+        Work::NormalExit => None,
+        Work::ErrorExit => None,
+        Work::StrayedOne => None,
+        Work::StrayedTwo => None,
+        Work::ProgramRange => None,
+        Work::NotHeld => None,
+        Work::MonitorFetch => None,
     }
 }
 
@@ -62,7 +53,7 @@ pub struct Burst {
 }
 
 // Steps until the budget is spent or one does more than step. The fields stay as they are all this time.
-fn take_burst(r: &mut [u64], mem: &mut [u64], f: Reach, from: ParcelAddr, budget: u64) -> Burst
+fn take_burst(r: &mut Words, mem: &mut [u64], f: Reach, from: ParcelAddr, budget: u64) -> Burst
     requires ready { Ready r.old f (length mem.old) }
     requires from_bound { from.0 < 2 ^ 24 }
     ensures { Bursts result.p result.steps result.work r.old r.new mem.old mem.new f from budget }
@@ -71,7 +62,7 @@ fn take_burst(r: &mut [u64], mem: &mut [u64], f: Reach, from: ParcelAddr, budget
     let mut left = budget;
     while left != 0 {
         let w = dispatch::work(r, mem, f, p);
-        let Moved::At(next) = move_p(p, w) else {
+        let Some(next) = move_p(p, w) else {
             return Burst {
                 p,
                 steps: budget - left,
@@ -89,18 +80,17 @@ fn take_burst(r: &mut [u64], mem: &mut [u64], f: Reach, from: ParcelAddr, budget
 }
 
 // The flag of an exit: set in user mode only.
-fn in_user_mode(r: &[u64], flag: u64) -> u64
-    requires { length r.now ≡ 672 }
+fn in_user_mode(r: &Words, flag: u64) -> u64
     ensures { result ≡ in_user_mode (frame_of r.now) flag }
 {
     if access::is_user(r) { flag } else { 0 }
 }
 
 // The exchange with its flags, P saved being p.
-fn leave(r: &mut [u64], mem: &mut [u64], p: ParcelAddr, flags: u64) -> Answer
+fn leave(r: &mut Words, mem: &mut [u64], p: ParcelAddr, flags: u64) -> Answer
     requires fitting { Fitting r.old (length mem.old) }
     requires p_bound { (p.0 < 2 ^ 24) × (flags < 512) }
-    ensures { (s : Stray) → out result s (state_of r.new) (sharing mem.new)
+    ensures { (s : Option Stray) → out result s (state_of r.new) (sharing mem.new)
         ≡ exchange (frame_of r.old) (registers_of r.old) p.0 flags s (sharing mem.old) }
 {
     exchange::swap(r, mem, p, flags);
@@ -108,18 +98,17 @@ fn leave(r: &mut [u64], mem: &mut [u64], p: ParcelAddr, flags: u64) -> Answer
 }
 
 // P becomes p.
-fn set_p(r: &mut [u64], p: ParcelAddr)
-    requires { length r.old ≡ 672 }
+fn set_p(r: &mut Words, p: ParcelAddr)
     ensures { state_of r.new ≡ state_at p r.old }
 {
     r[access::P] = p.0;
 }
 
 // After an operand outside, P going to p.
-fn ranged(r: &mut [u64], mem: &mut [u64], p: ParcelAddr) -> Answer
+fn ranged(r: &mut Words, mem: &mut [u64], p: ParcelAddr) -> Answer
     requires fitting { Fitting r.old (length mem.old) }
     requires p_bound { p.0 < 2 ^ 24 }
-    ensures { (s : Stray) → out result s (state_of r.new) (sharing mem.new)
+    ensures { (s : Option Stray) → out result s (state_of r.new) (sharing mem.new)
         ≡ ranged (frame_of r.old) (registers_of r.old) p.0 s (sharing mem.old) }
 {
     if r[access::MM] == 0 && r[access::IOR] == 1 {
@@ -130,10 +119,10 @@ fn ranged(r: &mut [u64], mem: &mut [u64], p: ParcelAddr) -> Answer
 }
 
 // The end of a step whose instruction stood at p: P, the exchange or the stop.
-fn finish(r: &mut [u64], mem: &mut [u64], p: ParcelAddr, w: Work) -> Answer
+fn finish(r: &mut Words, mem: &mut [u64], p: ParcelAddr, w: Work) -> Answer
     requires fitting { Fitting r.old (length mem.old) }
     requires p_bound { (p.0 < 2 ^ 24) × Narrow w }
-    ensures { (s : Stray) → out result s (state_of r.new) (sharing mem.new)
+    ensures { (s : Option Stray) → out result s (state_of r.new) (sharing mem.new)
         ≡ finish (state_at p r.old) w s (registers_of r.old) (sharing mem.old) }
 {
     match w {
@@ -178,17 +167,14 @@ fn count_of(answer: Answer) -> u64
 }
 
 // The last answer of n steps that each stepped.
-fn last_after(n: u64) -> Last
-    ensures { result ≡ last_after n }
+fn last_after(n: u64) -> Option<Answer>
+    ensures { Ok result ≡ last_after n }
 {
-    if n == 0 {
-        Last::Nothing
-    } else {
-        Last::Was(Answer::Stepped)
-    }
+    if n == 0 { None } else { Some(Answer::Stepped) }
 }
 
-// Whether an operand of a step's work lay outside, and of how many parcels its instruction is.
+// Whether an operand of a step's work lay outside, and of how many parcels its instruction is: three cases side by side, since an Option
+// of two would be taken apart into the same three.
 #[derive(Clone, Copy)]
 pub enum Strays {
     None,
@@ -224,7 +210,7 @@ pub enum Came {
 }
 
 // A burst from P on, and the end of the step after it unless that strayed.
-fn stretch(r: &mut [u64], mem: &mut [u64], budget: u64) -> Came
+fn stretch(r: &mut Words, mem: &mut [u64], budget: u64) -> Came
     requires fitting { Fitting r.old (length mem.old) }
     requires bounds { (get_or r.old 0 0 < 2 ^ 24) × (budget ≤ 1000000) }
     ensures { Comes result budget r.old r.new mem.old mem.new }
@@ -252,43 +238,43 @@ fn stretch(r: &mut [u64], mem: &mut [u64], budget: u64) -> Came
 // The last answer of steps taken together; the stray of the last that had one; and how many of them stepped or exchanged.
 #[derive(Clone, Copy)]
 pub struct Turned {
-    pub last: Last,
-    pub stray: Stray,
+    pub last: Option<Answer>,
+    pub stray: Option<Stray>,
     pub steps: u64,
 }
 
 // The end of a step whose work strayed, after so many steps; P goes to p.
-fn strayed(r: &mut [u64], mem: &mut [u64], steps: u64, p: ParcelAddr, work: Work) -> Turned
+fn strayed(r: &mut Words, mem: &mut [u64], steps: u64, p: ParcelAddr, work: Work) -> Turned
     requires fitting { Fitting r.old (length mem.old) }
     requires p_bound { (p.0 < 2 ^ 24) × (steps ≤ 1000000) }
-    ensures { Strayed result.last result.stray result.steps steps p.0 work r.old r.new mem.old mem.new }
+    ensures { Strayed (Ok result.last) result.stray result.steps steps p.0 work r.old r.new mem.old mem.new }
 {
     let stray = memory::strays::of(r, mem.len() as u64, work);
     let answer = ranged(r, mem, p);
     Turned {
-        last: Last::Was(answer),
+        last: Some(answer),
         stray,
         steps: steps + count_of(answer),
     }
 }
 
 // What a burst came to, its last step ended.
-fn end(r: &mut [u64], mem: &mut [u64], came: Came) -> Turned
+fn end(r: &mut Words, mem: &mut [u64], came: Came) -> Turned
     requires fitting { Fitting r.old (length mem.old) }
     requires sound { Sound came r.old }
-    ensures { Ended result.last result.stray result.steps came r.old r.new mem.old mem.new }
+    ensures { Ended (Ok result.last) result.stray result.steps came r.old r.new mem.old mem.new }
 {
     match came {
         Came::Spent(steps) => Turned {
             last: last_after(steps),
-            stray: Stray::Clean,
+            stray: None,
             steps,
         },
         Came::StrayedOne { steps, p } => strayed(r, mem, steps, access::on(p, 1), Work::StrayedOne),
         Came::StrayedTwo { steps, p } => strayed(r, mem, steps, access::on(p, 2), Work::StrayedTwo),
         Came::Ended { steps, answer } => Turned {
-            last: Last::Was(answer),
-            stray: Stray::Clean,
+            last: Some(answer),
+            stray: None,
             steps: steps + count_of(answer),
         },
     }
@@ -307,23 +293,22 @@ fn answer_goes(answer: Answer, through: bool) -> bool
 }
 
 // The same of a last answer.
-fn last_goes(last: Last, through: bool) -> bool
-    ensures { result ≡ last_goes through last }
+fn last_goes(last: Option<Answer>, through: bool) -> bool
+    ensures { result ≡ last_goes through (Ok last) }
 {
     match last {
-        Last::Nothing => false,
-        Last::Was(answer) => answer_goes(answer, through),
-        Last::Refused(_) => false,
+        None => false,
+        Some(answer) => answer_goes(answer, through),
     }
 }
 
 // Steps until the budget is spent or an answer ends them. A stretch is taken at two places, so that the loop of steps stays a function of
 // its own, whatever the program.
-fn take(r: &mut [u64], mem: &mut [u64], budget: u64, through: bool) -> Turned
+fn take(r: &mut Words, mem: &mut [u64], budget: u64, through: bool) -> Turned
     requires fitting { Fitting r.old (length mem.old) }
     requires bounds { (get_or r.old 0 0 < 2 ^ 24) × (budget ≤ 1000000) }
-    ensures { turned result.last result.stray result.steps (state_of r.new) (sharing mem.new)
-        ≡ steps_of through budget Nothing Clean 0 (state_of r.old) (sharing mem.old) }
+    ensures { turned (Ok result.last) result.stray result.steps (state_of r.new) (sharing mem.new)
+        ≡ steps_of through budget (Ok None) None 0 (state_of r.old) (sharing mem.old) }
 {
     let start = stretch(r, mem, budget);
     let first = end(r, mem, start);
@@ -336,18 +321,18 @@ fn take(r: &mut [u64], mem: &mut [u64], budget: u64, through: bool) -> Turned
         let answer = next.last;
         let newer = next.stray;
         last = answer;
-        stray = memory::strays::or_else(newer, stray);
+        stray = newer.or(stray);
         steps += next.steps;
     }
     Turned { last, stray, steps }
 }
 
 // Steps up to and including the first that exchanges or stops, at most so many.
-pub fn turn(r: &mut [u64], mem: &mut [u64], budget: u64) -> Turned
+pub fn turn(r: &mut Words, mem: &mut [u64], budget: u64) -> Turned
     requires fitting { Fitting r.old (length mem.old) }
     requires bounds { (get_or r.old 0 0 < 2 ^ 24) × (budget ≤ 1000000) }
-    ensures { turned result.last result.stray result.steps (state_of r.new) (sharing mem.new)
-        ≡ turn_of budget Nothing Clean 0 (state_of r.old) (sharing mem.old) }
+    ensures { turned (Ok result.last) result.stray result.steps (state_of r.new) (sharing mem.new)
+        ≡ turn_of budget (Ok None) None 0 (state_of r.old) (sharing mem.old) }
 {
     take(r, mem, budget, false)
 }

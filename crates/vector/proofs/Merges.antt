@@ -5,18 +5,18 @@ use mathlib.Core.Bool.{Bool, true, false}
 use mathlib.Core.List.{List}
 use native.Mathlib.Nat.{mod-eq_of_lt, mul_assoc}
 use native.Mathlib.Omega.{arith}
-use lib.ListN.{length, get_or, set}
+use lib.ListN.{get_or, set}
 use lib.Dec.{eqb}
 use lib.Pow.{pow-lt, pow-add, shl-shr, shr-shr, field, mod-mod-pow}
 use lib.Bits.{and_zero_r, or_zero_r, and_mask}
 use Rattle.machine.specs.Word.{pick, merge}
-use Rattle.machine.specs.Parcel.{i_of, j_of, k_of}
-use Rattle.machine.specs.State.{sj}
+use Rattle.machine.specs.Parcel.{k_of}
 use Rattle.machine.specs.Act.{masked}
 use Rattle.machine.specs.Layout.{registers_of}
-use Rattle.word.proofs.Laws.{product-mod}
-use Rattle.vector.specs.Element.{two_masks, left_at, merged_two}
-use Rattle.vector.proofs.Loops.{Doing, reads, goes}
+use Rattle.word.proofs.Laws.{product_mod}
+use Rattle.vector.specs.declared.Operands.{Operands}
+use Rattle.vector.specs.Element.{two_masks, left_at, AreOperands, merged_two}
+use Rattle.vector.proofs.Loops.{Doing, reads, goes, left-reads}
 use Rattle.vector.proofs.Arms.{merged_of}
 
 -- by a mask of all ones, or of none
@@ -48,7 +48,7 @@ module _ (bits x y : ℕ) (b : bits < 2 ^ 64) (h : x < 2 ^ 64) (l : y < 2 ^ 64) 
 pub shift-more : (vm e m : ℕ) → m < 64 → vm * 2 ^ e % 2 ^ 64 * 2 ^ m % 2 ^ 64 ≡ vm * 2 ^ (e + m) % 2 ^ 64
 shift-more vm e m l =
     ap (λ (z : ℕ). vm * 2 ^ e % 2 ^ 64 * z % 2 ^ 64) (sym (mod-eq_of_lt (pow-lt l)))
-    ∙ product-mod (vm * 2 ^ e) (2 ^ m) (2 ^ 64)
+    ∙ product_mod (vm * 2 ^ e) (2 ^ m) (2 ^ 64)
     ∙ rw (mul_assoc vm (2 ^ e) (2 ^ m), ← pow-add 2 e m)
 
 -- the bit of an element after a shift
@@ -59,48 +59,34 @@ masked-shift vm e k m h l =
     let w : vm * 2 ^ e % 2 ^ 64 / 2 ^ (63 - k) ≡ vm * 2 ^ e / 2 ^ (63 - k) % 2 ^ (k + 1) = rw n at (field (vm * 2 ^ e) (k + 1) (63 - k)) in
     rw (w, mod-mod-pow (vm * 2 ^ e / 2 ^ (63 - k)) k 1, d, ← shr-shr (vm * 2 ^ e) e (63 - m), shl-shr vm e)
 
-module _ (scalar : Bool) (x n s : ℕ) (r₀ : List ℕ) (same : s ≡ sj (registers_of r₀) (j_of x)) (short : n ≤ 64) where
-  -- a loop that merges n elements of Vi; the places of element e of Vj, Vk and Vi
+module _ (scalar : Bool) (x n : ℕ) (r₀ : List ℕ) (o : Operands) (h : AreOperands o r₀ scalar x) (short : n ≤ 64) where
+  -- a loop that merges n elements of Vi
   abbrev Merging : List ℕ → ℕ → Type 0
   Merging r e = Doing x n (merged_of scalar r₀ x) r₀ r e
 
-  abbrev Places : ℕ → ℕ → ℕ → ℕ → Type 0
-  Places e left right to = (left ≡ 160 + j_of x * 64 + e) × (right ≡ 160 + k_of x * 64 + e) × (to ≡ 160 + i_of x * 64 + e)
-
   -- one element more
-  pub goes_one : (e left right to l y : ℕ) (r : List ℕ) → Merging r e → e < n → Places e left right to
-      → l ≡ left_at r scalar s left → y ≡ pick (masked (registers_of r₀).vm e) l (get_or r right 0) → Merging (set r to y) (e + 1)
-  goes_one e left right to l y r d h g p q =
-      goes d to y (omega arith) (cc (reads d (j_of x) e left (omega arith), reads d (k_of x) e right (omega arith)))
+  pub goes_one : (e y : ℕ) (r : List ℕ) → Merging r e → e < n → y ≡ pick (masked (registers_of r₀).vm e) (left_at r o.left e) (get_or r (o.right + e) 0)
+      → Merging (set r (o.to + e) y) (e + 1)
+  goes_one e y r d l q =
+      goes d (o.to + e) y (omega (arith, h.to)) (cc (left-reads h d e (omega arith), reads d (k_of x) e (o.right + e) (omega (arith, h.right))))
 
   -- two elements more, where the bits of VM from e on are the first of a word
-  goes-two : (e bits left right to : ℕ) (r : List ℕ) → Merging r e → e + 2 ≤ n → bits ≡ (registers_of r₀).vm * 2 ^ e % 2 ^ 64 → Places e left right to
-      → Merging (merged_two r bits scalar s left right to) (e + 2)
-  goes-two e bits left right to r d l b h =
+  goes-two : (e bits : ℕ) (r : List ℕ) → Merging r e → e + 2 ≤ n → bits ≡ (registers_of r₀).vm * 2 ^ e % 2 ^ 64 → Merging (merged_two r bits o e) (e + 2)
+  goes-two e bits r d l b =
       let two : e + 2 ≡ e + 1 + 1 = omega arith in
       rw two
-      (goes (goes_one e left right to _ _ r d (omega arith) h refl (cc (masked-shift (registers_of r₀).vm e 0 e (omega arith) (omega arith))))
-      (to + 1) _ (omega arith)
+      (goes (goes_one e _ r d (omega arith) (cc (masked-shift (registers_of r₀).vm e 0 e (omega arith) (omega arith))))
+      (o.to + e + 1) _ (omega (arith, h.to))
       (cc (
         masked-shift (registers_of r₀).vm e 1 (e + 1) (omega arith) (omega arith),
-        reads d (j_of x) (e + 1) (left + 1) (omega arith),
-        reads d (k_of x) (e + 1) (right + 1) (omega arith),
+        left-reads h d (e + 1) (omega arith),
+        reads d (k_of x) (e + 1) (o.right + e + 1) (omega (arith, h.right)),
       )))
 
   -- and two more
-  pub goes-four : (e bits left right to : ℕ) (r r₁ r₂ : List ℕ) → Merging r e → e + 4 ≤ n → bits ≡ (registers_of r₀).vm * 2 ^ e % 2 ^ 64
-      → Places e left right to → r₁ ≡ merged_two r bits scalar s left right to
-      → r₂ ≡ merged_two r₁ (bits * 2 ^ 2 % 2 ^ 64) scalar s (left + 2) (right + 2) (to + 2) → Merging r₂ (e + 4)
-  goes-four e bits left right to r r₁ r₂ d l b h p q =
+  pub goes-four : (e bits : ℕ) (r r₁ r₂ : List ℕ) → Merging r e → e + 4 ≤ n → bits ≡ (registers_of r₀).vm * 2 ^ e % 2 ^ 64
+      → r₁ ≡ merged_two r bits o e → r₂ ≡ merged_two r₁ (bits * 2 ^ 2 % 2 ^ 64) o (e + 2) → Merging r₂ (e + 4)
+  goes-four e bits r r₁ r₂ d l b p q =
       let two : e + 4 ≡ e + 2 + 2 = omega arith in
-      let d₁ : Merging r₁ (e + 2) = rw p (goes-two e bits left right to r d (omega arith) b h) in
-      rw (two, q)
-      (goes-two (e + 2) (bits * 2 ^ 2 % 2 ^ 64) (left + 2) (right + 2) (to + 2) r₁ d₁ (omega arith)
-      (rw b (shift-more (registers_of r₀).vm e 2 (omega arith))) (omega arith))
-
--- what a loop that began with r₀ at element e₀ makes of any merge, from w on, that had come that far
-pub record GoesOn (scalar : Bool) (x n s vm : ℕ) (r₀ : List ℕ) (e₀ : ℕ) (r : List ℕ) (e : ℕ) : Type 0 where
-  pub within : e ≤ n
-  pub long : length r ≡ 672
-  pub on : (w : List ℕ) → s ≡ sj (registers_of w) (j_of x) → vm ≡ (registers_of w).vm → Doing x n (merged_of scalar w x) w r₀ e₀
-      → Doing x n (merged_of scalar w x) w r e
+      let d₁ : Merging r₁ (e + 2) = rw p (goes-two e bits r d (omega arith) b) in
+      rw (two, q) (goes-two (e + 2) (bits * 2 ^ 2 % 2 ^ 64) r₁ d₁ (omega arith) (rw b (shift-more (registers_of r₀).vm e 2 (omega arith))))

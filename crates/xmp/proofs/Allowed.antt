@@ -8,13 +8,11 @@ use lib.ListN.{length, get_or, set, replicate, drop, length-drop}
 use lib.Seq.{length-take-le}
 use lib.Dec.{eqb, leb}
 use borrow.Author.Tests.{ltb-false, leb-true, eqb-true}
+use Rattle.std.specs.Prelude.{Err, Option, Some, None, Ok, Result, unwrap_or}
 use Rattle.machine.specs.declared.Answer.{Answer}
 use Rattle.machine.specs.declared.Answer.TheVariants.{Stepped, Exchanged, NotHeld, MonitorFetch}
-use Rattle.machine.specs.declared.Last.{Last}
-use Rattle.machine.specs.declared.Last.TheVariants as last
-use Rattle.machine.specs.declared.Reply.TheVariants.{Answered}
+use Rattle.machine.specs.Run.{Last}
 use Rattle.machine.specs.declared.Stray.{Stray}
-use Rattle.machine.specs.declared.Stray.TheVariants.{Clean, First}
 use Rattle.machine.specs.Word.{pick}
 use Rattle.machine.specs.State.{State, Shared}
 use Rattle.machine.specs.Memory.{or_else}
@@ -28,7 +26,6 @@ use Rattle.access.proofs.Places.{part_at}
 use Rattle.access.proofs.Fits.{fit}
 use Rattle.turns.specs.Turn.{Fitting}
 use Rattle.turns.specs.Pair.{Both}
-use Rattle.xmp.specs.Reply.{reply_of}
 
 -- two ensures of one call: what it gives, and the numbers of its answer
 pub told : {A B : Type 0} (f : A → B) (a b : A) → a ≡ b → (a ≡ b) × (f a ≡ f b)
@@ -119,18 +116,18 @@ pair-allowed pair len schedule long e =
     )
 
 -- a turn of one step is the step
-or-clean : (s : Stray) → or_else s Clean ≡ s
-or-clean Clean = refl
-or-clean (First cause e) = refl
+or-clean : (s : Option Stray) → or_else s None ≡ s
+or-clean None = refl
+or-clean (Some stray) = refl
 
 turn_one : (st : State) (sh : Shared)
-    → turn_of 1 last.Nothing Clean 0 st sh
-    ≡ turned (last.Was (step_of st sh).answer) (step_of st sh).stray (counted (step_of st sh).answer) (step_of st sh).state (step_of st sh).shared
+    → turn_of 1 (Ok None) None 0 st sh
+    ≡ turned (Ok (Some (step_of st sh).answer)) (step_of st sh).stray (counted (step_of st sh).answer) (step_of st sh).state (step_of st sh).shared
 unfolding turn_of
 turn_one st sh = rw (or-clean (step_of st sh).stray) (go (step_of st sh).answer)
   where
     t : Answer → ℕ → Turned
-    t o n = turned (last.Was o) (step_of st sh).stray n (step_of st sh).state (step_of st sh).shared
+    t o n = turned (Ok (Some o)) (step_of st sh).stray n (step_of st sh).state (step_of st sh).shared
 
     go : (o : Answer) → pick (goes_on o) (t o (0 + counted o)) (t o (0 + counted o)) ≡ t o (counted o)
     go Stepped = refl
@@ -138,9 +135,15 @@ turn_one st sh = rw (or-clean (step_of st sh).stray) (go (step_of st sh).answer)
     go (NotHeld p) = refl
     go (MonitorFetch p) = refl
 
-pub stepped : (l : Last) (s : Stray) (n : ℕ) (st st' : State) (sh sh' : Shared) → turned l s n st' sh' ≡ turn_of 1 last.Nothing Clean 0 st sh
-    → replied (reply_of l) s st' sh' ≡ replied (Answered (step_of st sh).answer) (step_of st sh).stray (step_of st sh).state (step_of st sh).shared
-stepped l s n st st' sh sh' e = ap (λ (t : Turned). replied (reply_of t.last) t.stray t.state t.shared) (e ∙ turn_one st sh)
+-- so the reply of a step is the last answer of a turn of one
+abbrev replied_by : Last → Result Answer ℕ
+replied_by (Ok l) = Ok (unwrap_or l Stepped)
+replied_by (Err n) = Err n
+
+pub stepped : (l : Option Answer) (s : Option Stray) (n : ℕ) (st st' : State) (sh sh' : Shared) → turned (Ok l) s n st' sh' ≡ turn_of 1 (Ok None) None 0 st sh
+    → replied (Ok (unwrap_or l Stepped)) s st' sh'
+    ≡ replied (Ok (step_of st sh).answer) (step_of st sh).stray (step_of st sh).state (step_of st sh).shared
+stepped l s n st st' sh sh' e = ap (λ (t : Turned). replied (replied_by t.last) t.stray t.state t.shared) (e ∙ turn_one st sh)
 
 -- a processor's words all zero but its number load as a start does
 pub zeroed : (mem : List ℕ) (x n : ℕ) (w : List ℕ) → w ≡ set (replicate 672 0) 15 n → loaded mem x (registers_of w) (frame_of w) ≡ start_of mem x n

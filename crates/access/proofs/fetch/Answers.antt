@@ -25,7 +25,7 @@ pub returns-then-w-f : goal.returns-then-w-f
 unfolding fetch_in
 returns-then-w-f c =
     rw (
-      ← c.word_of-w.ensures,
+      ← c.from-w.ensures,
       lt-ltb _ _ c.if-w-f.true,
       parcel-in
           c.args.mem.now _ _
@@ -34,4 +34,4 @@ returns-then-w-f c =
 
 pub returns-else-w-f : goal.returns-else-w-f
 unfolding fetch_in
-returns-else-w-f c = rw (← c.word_of-w.ensures, le-ltb _ _ c.if-w-f.false)
+returns-else-w-f c = rw (← c.from-w.ensures, le-ltb _ _ c.if-w-f.false)

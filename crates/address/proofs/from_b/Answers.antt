@@ -7,4 +7,4 @@ pub returns : goal.returns
 unfolding code_of act
 returns c =
     λ p mem. puts a_from_b _ _ _ _ mem p _ c.put_a.ensures
-    (rw c.requires.1) (rw c.b_jk.ensures)
+    (rw c.requires) (rw c.b_jk.ensures)

@@ -10,7 +10,7 @@ unfolding code_of act
 returns-then-last-eq0 c =
     λ p mem. puts a_from_s _ _ _ _ mem p _ c.put_a.ensures
     (rw (
-      c.requires.1,
+      c.requires,
       ← c.k-last.ensures,
       c.if-last-eq0.true,
     )) (rw c.s_j.ensures)
@@ -20,7 +20,7 @@ unfolding code_of act
 returns-then-last-eq1 c =
     λ p mem. puts a_from_vl _ _ _ _ mem p _ c.put_a-then-last-eq1.ensures
     (rw (
-      c.requires.1,
+      c.requires,
       ← c.k-last.ensures,
       ← c.j.ensures,
       c.if-j-eq0.true,
@@ -31,7 +31,7 @@ returns-then-last-eq1 c =
 pub returns : goal.returns
 unfolding code_of
 returns c =
-    λ p mem. not-held _ mem p _ (rw (c.requires.1, ← c.k-last.ensures, ← c.j.ensures)
+    λ p mem. not-held _ mem p _ (rw (c.requires, ← c.k-last.ensures, ← c.j.ensures)
     (simp (ne_eqb _ _ c.if-last-eq0.false) (elim c.else-j-eq0.branch [
       | else-j-eq0-via-then-j-eq0+else-last-eq1 w ↦ rw (w.if-j-eq0.true, w.if-last-eq1.false-raw)
       | else-j-eq0-via-else-j-eq0 w ↦ simp (ne_eqb _ _ w.if-j-eq0.false)

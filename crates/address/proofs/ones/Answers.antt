@@ -11,7 +11,7 @@ unfolding code_of act
 returns-in-0 c =
     λ p mem. puts a_ones _ _ _ _ mem p _ c.put_a.ensures
     (rw (
-      c.requires.1,
+      c.requires,
       ← c.k.ensures,
       c.in-0.is,
     )) (rw (
@@ -24,7 +24,7 @@ unfolding code_of act
 returns-in-1 c =
     λ p mem. puts a_parity _ _ _ _ mem p _ c.put_a-in-1.ensures
     (rw (
-      c.requires.1,
+      c.requires,
       ← c.k.ensures,
       c.in-1.is,
     )) (rw (
@@ -36,4 +36,4 @@ pub returns-in_default : goal.returns-in_default
 unfolding code_of
 returns-in_default c = λ p mem.
     let h : 2 ≤ c.k.result = omega (arith, c.in_default.in_default-own.rest) in
-    not-held _ mem p _ (rw (c.requires.1, ← c.k.ensures, get_or-eq_default _ _ h))
+    not-held _ mem p _ (rw (c.requires, ← c.k.ensures, get_or-eq_default _ _ h))

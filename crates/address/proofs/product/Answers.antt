@@ -7,7 +7,7 @@ pub returns : goal.returns
 unfolding code_of act
 returns c =
     λ p mem. puts product_a _ _ _ _ mem p _ c.put_a.ensures
-    (rw c.requires.1)
+    (rw c.requires)
     (rw (
       c.product_24.ensures,
       c.a_j.ensures,

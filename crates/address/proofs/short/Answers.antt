@@ -6,4 +6,4 @@ use Rattle.address.proofs.short.Goals as goal
 
 pub returns : goal.returns
 unfolding code_of act
-returns c = λ p mem. puts short_a _ _ _ _ mem p _ c.put_a.ensures (rw c.requires.1) refl
+returns c = λ p mem. puts short_a _ _ _ _ mem p _ c.put_a.ensures (rw c.requires) refl

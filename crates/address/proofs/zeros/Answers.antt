@@ -9,7 +9,7 @@ unfolding code_of act
 returns-then-k-eq0 c =
     λ p mem. puts a_zeros _ _ _ _ mem p _ c.put_a.ensures
     (rw (
-      c.requires.1,
+      c.requires,
       ← c.k.ensures,
       c.if-k-eq0.true,
     )) (rw (
@@ -19,4 +19,4 @@ returns-then-k-eq0 c =
 
 pub returns-else-k-eq0 : goal.returns-else-k-eq0
 unfolding code_of
-returns-else-k-eq0 c = λ p mem. not-held _ mem p _ (rw (c.requires.1, ← c.k.ensures, ne_eqb _ _ c.if-k-eq0.false))
+returns-else-k-eq0 c = λ p mem. not-held _ mem p _ (rw (c.requires, ← c.k.ensures, ne_eqb _ _ c.if-k-eq0.false))

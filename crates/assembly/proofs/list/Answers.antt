@@ -1,6 +1,6 @@
 use mathlib.Core.Path.{sym, ◌∙◌}
+use borrow.Author.Tests.{leb-true, not-true, not-false}
 use lib.ListN.{length}
-use borrow.Author.Tests.{not-true, not-false, leb-true}
 use Rattle.spelling.specs.Listing.{list_of}
 use Rattle.assembly.proofs.Laws.{listed-not, listed-all}
 use Rattle.assembly.proofs.list.Goals as goal
@@ -11,12 +11,8 @@ returns-then-not-is_room c =
     record { value = r.0; room_after = r.1 }
 
 pub write-requires : goal.write-requires
-write-requires c = (
-  leb-true (length (list_of c.args.parcels.now)) (length c.args.room.now)
-      (sym c.is_room.ensures ∙ not-false _ c.if-not-is_room.false-raw),
-  c.forms-forms.ensures,
-  c.operands-operands.ensures,
-)
+write-requires c =
+    leb-true (length (list_of c.args.parcels.now)) (length c.args.room.now) (sym c.is_room.ensures ∙ not-false _ c.if-not-is_room.false-raw)
 
 pub returns : goal.returns
 returns c =

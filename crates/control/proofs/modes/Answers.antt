@@ -1,5 +1,3 @@
-use mathlib.Core.Path.{refl}
-use mathlib.Core.Logic.{inl, inr}
 use borrow.Author.Tests.{ne_eqb}
 use native.Mathlib.Omega.{arith}
 use Rattle.machine.specs.Act.{set_vl, act}
@@ -10,26 +8,19 @@ use Rattle.control.proofs.modes.Goals as goal
 pub returns-then-j-ne0 : goal.returns-then-j-ne0
 unfolding code_of code002
 returns-then-j-ne0 c =
-    λ p mem. not-held _ mem p _ (rw (c.requires.1, ← c.j.ensures, ne_eqb _ _ c.if-j-ne0.true))
-
-pub put_control-requires : goal.put_control-requires
-put_control-requires c =
-    record {
-      whole = c.requires.0;
-      control = inl (inr refl);
-    }
+    λ p mem. not-held _ mem p _ (rw (c.requires, ← c.j.ensures, ne_eqb _ _ c.if-j-ne0.true))
 
 pub returns-then-i-eq0 : goal.returns-then-i-eq0
 unfolding code_of code002 act
 returns-then-i-eq0 c =
     λ p mem. puts set_vl _ _ _ _ mem p _ c.put_control.ensures
-    (rw (c.requires.1, ← c.j.ensures, c.if-j-ne0.false, ← c.i-i.ensures, c.if-i-eq0.true)) (rw (c.vector_length.ensures, c.a_k.ensures))
+    (rw (c.requires, ← c.j.ensures, c.if-j-ne0.false, ← c.i-i.ensures, c.if-i-eq0.true)) (rw (c.vector_length.ensures, c.a_k.ensures))
 
 pub returns-then-k-ne0 : goal.returns-then-k-ne0
 unfolding code_of code002
 returns-then-k-ne0 c =
     λ p mem. not-held _ mem p _ (rw (
-      c.requires.1,
+      c.requires,
       ← c.j.ensures,
       c.if-j-ne0.false,
       ← c.i-i.ensures,
@@ -41,8 +32,7 @@ returns-then-k-ne0 c =
 
 pub set_mode-requires : goal.set_mode-requires
 set_mode-requires c = (
-  c.requires.0,
-  c.requires.1,
+  c.requires,
   rw (
     ← c.j.ensures,
     c.if-j-ne0.false,

@@ -1,36 +1,22 @@
-use mathlib.Core.Path.{sym, ◌∙◌}
-use native.Mathlib.Omega.{arith}
-use Rattle.desk.proofs.Texts.{cal-long, cal-holds, cal-bad, cal-full, cal-room, refused-room, gives-some, gives-refusal}
+use Rattle.std.specs.Prelude.{Result}
+use mathlib.Core.Path.{sym, subst, ◌∙◌}
+use Prim.Native.Nat.{ℕ}
+use lib.ListN.{length}
+use Rattle.spelling.specs.declared.ReadError.{ReadError}
+use Rattle.desk.specs.Desk.{Stands, cal_given}
+use Rattle.desk.proofs.Texts.{refused-room, cal-room, cal-long, cal-stands}
 use Rattle.desk.proofs.assemble.Goals as goal
 
 pub returns-then-text-gt-LONGEST : goal.returns-then-text-gt-LONGEST
 returns-then-text-gt-LONGEST c =
     let long = cal-long _ _ c.if-text-gt-LONGEST.true in
-    record {
-      gives = gives-refusal long c.put_refused_line.ensures.0 c.put_refused_line.ensures.1;
-      parcels_after = refused-room _ _ _ long;
-    }
+    record { gives = long; parcels_after = refused-room _ _ _ long }
 
-pub returns-in-Parcels : goal.returns-in-Parcels
-returns-in-Parcels c =
-    let h = cal-holds _ _ c.if-text-gt-LONGEST.false _ c.assemble.ensures.room_after _ (sym c.assemble.ensures.value ∙ c.in-Parcels.is) in
+pub returns : goal.returns
+returns c =
+    let stands = cal-stands c.args.text.now c.args.parcels.now _ c.if-text-gt-LONGEST.false c.assemble.ensures.room_after in
     record {
-      gives = gives-some h.0 h.1 h.2;
-      parcels_after = c.assemble.ensures.room_after ∙ cal-room _ _ c.if-text-gt-LONGEST.false;
-    }
-
-pub returns-in-BadLine : goal.returns-in-BadLine
-returns-in-BadLine c =
-    let bad = cal-bad _ _ c.if-text-gt-LONGEST.false _ (sym c.assemble.ensures.value ∙ c.in-BadLine.is) in
-    record {
-      gives = gives-refusal bad c.put_refused_line-in-BadLine.ensures.0 c.put_refused_line-in-BadLine.ensures.1;
-      parcels_after = c.assemble.ensures.room_after ∙ cal-room _ _ c.if-text-gt-LONGEST.false;
-    }
-
-pub returns-in-Overfull : goal.returns-in-Overfull
-returns-in-Overfull c =
-    let full = cal-full _ _ c.if-text-gt-LONGEST.false (sym c.assemble.ensures.value ∙ c.in-Overfull.is) in
-    record {
-      gives = gives-refusal full c.put_refused.ensures.0 (omega (arith, c.put_refused.ensures.1));
+      gives = subst (λ (r : Result ℕ ReadError). Stands (cal_given (length c.args.parcels.now) c.args.text.now) c.assemble.new.room r)
+          (sym c.assemble.ensures.value) stands;
       parcels_after = c.assemble.ensures.room_after ∙ cal-room _ _ c.if-text-gt-LONGEST.false;
     }

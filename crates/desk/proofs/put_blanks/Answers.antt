@@ -1,22 +1,14 @@
-use mathlib.Core.Path.{refl, ◌∙◌}
-use native.Mathlib.Nat.{add-zero, sub-zero}
+use mathlib.Core.Path.{sym}
 use native.Mathlib.Omega.{arith}
-use Rattle.desk.proofs.Columns.{blanks-next, blanks-done}
+use Prim.Native.Nat.{ℕ}
+use lib.ListN.{replicate}
+use lib.Seq.{length-take-le}
+use Rattle.text.proofs.Writing.{wrote_as}
+use Rattle.desk.proofs.Columns.{blanks-are}
 use Rattle.desk.proofs.put_blanks.Goals as goal
 
-pub loop-i-init : goal.loop-i-init
-loop-i-init c = (omega arith, refl, λ m q w. simp (add-zero, sub-zero) at w)
-
-pub loop-i-preserved : goal.loop-i-preserved
-loop-i-preserved c = (
-  omega arith,
-  c.put_byte.auto.out ∙ c.loop-i.invariant.1,
-  λ m q w. c.loop-i.invariant.2 m q
-      (blanks-next _ _ _ c.loop-i-test.true c.put_byte.ensures w),
-)
-
-pub shape_of-out : goal.shape_of-out
-shape_of-out c = c.loop-i.invariant.1
-
 pub returns : goal.returns
-returns c = (c.loop-i.invariant.2 _ _ (blanks-done _ _ _ _ c.loop-i-test.false), omega arith)
+returns c =
+    let n = length-take-le c.args.n (replicate {A = ℕ} 16 32) c.requires.1 in
+    let end = c.put_text.ensures.0.place in
+    (wrote_as (sym (blanks-are 16 c.args.n c.requires.1)) c.put_text.ensures.0, omega (arith, n, end))

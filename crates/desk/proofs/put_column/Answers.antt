@@ -11,13 +11,6 @@ pub overflow_sub-n : goal.overflow_sub-n
 overflow_sub-n c =
     omega (arith, c.put_number-n.ensures.0.place, address-most c.args.address)
 
-pub put_blanks-first-requires : goal.put_blanks-first-requires
-put_blanks-first-requires c =
-    omega (arith, c.put_number-n.ensures.0.place, address-most c.args.address)
-
-pub put_number-requires : goal.put_number-requires
-put_number-requires c = omega (arith, c.put_blanks-first.ensures.1)
-
 pub returns : goal.returns
 returns c =
     let e : c.put_number-n.result ≡ length (shown 8 1 (c.args.address % 16777216)) = omega

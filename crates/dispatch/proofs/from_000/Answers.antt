@@ -9,15 +9,15 @@ error_exit-requires c =
 
 pub privileged-requires : goal.privileged-requires
 privileged-requires c =
-    alone c.requires.ready c.requires.x_bound.0 c.requires.x_bound.1 c.in-1.is (λ c. refl)
+    alone c.requires.x_bound.0 c.requires.x_bound.1 c.in-1.is (λ c. refl)
 
 pub modes-requires : goal.modes-requires
 modes-requires c =
-    alone c.requires.ready c.requires.x_bound.0 c.requires.x_bound.1 c.in-2.is (λ c. refl)
+    alone c.requires.x_bound.0 c.requires.x_bound.1 c.in-2.is (λ c. refl)
 
 pub set_mask-requires : goal.set_mask-requires
 set_mask-requires c =
-    alone c.requires.ready c.requires.x_bound.0 c.requires.x_bound.1 c.in-3.is (λ c. refl)
+    alone c.requires.x_bound.0 c.requires.x_bound.1 c.in-3.is (λ c. refl)
 
 pub normal_exit-requires : goal.normal_exit-requires
 normal_exit-requires c =
@@ -25,75 +25,75 @@ normal_exit-requires c =
 
 pub jump_b-requires : goal.jump_b-requires
 jump_b-requires c =
-    alone c.requires.ready c.requires.x_bound.0 c.requires.x_bound.1 c.in-5.is (λ c. refl)
+    alone c.requires.x_bound.0 c.requires.x_bound.1 c.in-5.is (λ c. refl)
 
 pub jump-requires : goal.jump-requires
 jump-requires c =
     record {
-      whole = alone c.requires.ready c.requires.x_bound.0 c.requires.x_bound.1 c.in-6.is (λ c. refl);
+      coded = alone c.requires.x_bound.0 c.requires.x_bound.1 c.in-6.is (λ c. refl);
       reaches = c.requires.ready.reaches;
     }
 
 pub return_jump-requires : goal.return_jump-requires
 return_jump-requires c =
     record {
-      whole = alone c.requires.ready c.requires.x_bound.0 c.requires.x_bound.1 c.in-7.is (λ c. refl);
+      coded = alone c.requires.x_bound.0 c.requires.x_bound.1 c.in-7.is (λ c. refl);
       reaches = c.requires.ready.reaches;
     }
 
 pub branch-r-requires : goal.branch-r-requires
 branch-r-requires c =
     record {
-      whole = alone c.requires.ready c.requires.x_bound.0 c.requires.x_bound.1 c.in-8.is (λ c. refl);
+      coded = alone c.requires.x_bound.0 c.requires.x_bound.1 c.in-8.is (λ c. refl);
       reaches = c.requires.ready.reaches;
     }
 
 pub branch-r-requires-in-9 : goal.branch-r-requires-in-9
 branch-r-requires-in-9 c =
     record {
-      whole = alone c.requires.ready c.requires.x_bound.0 c.requires.x_bound.1 c.in-9.is (λ c. refl);
+      coded = alone c.requires.x_bound.0 c.requires.x_bound.1 c.in-9.is (λ c. refl);
       reaches = c.requires.ready.reaches;
     }
 
 pub branch-r-requires-in-10 : goal.branch-r-requires-in-10
 branch-r-requires-in-10 c =
     record {
-      whole = alone c.requires.ready c.requires.x_bound.0 c.requires.x_bound.1 c.in-10.is (λ c. refl);
+      coded = alone c.requires.x_bound.0 c.requires.x_bound.1 c.in-10.is (λ c. refl);
       reaches = c.requires.ready.reaches;
     }
 
 pub branch-r-requires-in-11 : goal.branch-r-requires-in-11
 branch-r-requires-in-11 c =
     record {
-      whole = alone c.requires.ready c.requires.x_bound.0 c.requires.x_bound.1 c.in-11.is (λ c. refl);
+      coded = alone c.requires.x_bound.0 c.requires.x_bound.1 c.in-11.is (λ c. refl);
       reaches = c.requires.ready.reaches;
     }
 
 pub branch-r-requires-in-12 : goal.branch-r-requires-in-12
 branch-r-requires-in-12 c =
     record {
-      whole = alone c.requires.ready c.requires.x_bound.0 c.requires.x_bound.1 c.in-12.is (λ c. refl);
+      coded = alone c.requires.x_bound.0 c.requires.x_bound.1 c.in-12.is (λ c. refl);
       reaches = c.requires.ready.reaches;
     }
 
 pub branch-r-requires-in-13 : goal.branch-r-requires-in-13
 branch-r-requires-in-13 c =
     record {
-      whole = alone c.requires.ready c.requires.x_bound.0 c.requires.x_bound.1 c.in-13.is (λ c. refl);
+      coded = alone c.requires.x_bound.0 c.requires.x_bound.1 c.in-13.is (λ c. refl);
       reaches = c.requires.ready.reaches;
     }
 
 pub branch-r-requires-in-14 : goal.branch-r-requires-in-14
 branch-r-requires-in-14 c =
     record {
-      whole = alone c.requires.ready c.requires.x_bound.0 c.requires.x_bound.1 c.in-14.is (λ c. refl);
+      coded = alone c.requires.x_bound.0 c.requires.x_bound.1 c.in-14.is (λ c. refl);
       reaches = c.requires.ready.reaches;
     }
 
 pub branch-r-requires-in-15 : goal.branch-r-requires-in-15
 branch-r-requires-in-15 c =
     record {
-      whole = alone c.requires.ready c.requires.x_bound.0 c.requires.x_bound.1 c.in-15.is (λ c. refl);
+      coded = alone c.requires.x_bound.0 c.requires.x_bound.1 c.in-15.is (λ c. refl);
       reaches = c.requires.ready.reaches;
     }
 

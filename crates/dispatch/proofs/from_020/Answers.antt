@@ -6,78 +6,78 @@ use Rattle.dispatch.proofs.from_020.Goals as goal
 pub enter-requires : goal.enter-requires
 enter-requires c =
     record {
-      whole = alone c.requires.ready c.requires.x_bound.0 c.requires.x_bound.1 c.in-16.is (λ c. refl);
+      coded = alone c.requires.x_bound.0 c.requires.x_bound.1 c.in-16.is (λ c. refl);
       reaches = c.requires.ready.reaches;
     }
 
 pub enter-requires-in-17 : goal.enter-requires-in-17
 enter-requires-in-17 c =
     record {
-      whole = alone c.requires.ready c.requires.x_bound.0 c.requires.x_bound.1 c.in-17.is (λ c. refl);
+      coded = alone c.requires.x_bound.0 c.requires.x_bound.1 c.in-17.is (λ c. refl);
       reaches = c.requires.ready.reaches;
     }
 
 pub short-requires : goal.short-requires
 short-requires c =
-    alone c.requires.ready c.requires.x_bound.0 c.requires.x_bound.1 c.in-18.is (λ c. refl)
+    alone c.requires.x_bound.0 c.requires.x_bound.1 c.in-18.is (λ c. refl)
 
 pub from_s_or_vl-requires : goal.from_s_or_vl-requires
 from_s_or_vl-requires c =
-    alone c.requires.ready c.requires.x_bound.0 c.requires.x_bound.1 c.in-19.is (λ c. refl)
+    alone c.requires.x_bound.0 c.requires.x_bound.1 c.in-19.is (λ c. refl)
 
 pub from_b-requires : goal.from_b-requires
 from_b-requires c =
-    alone c.requires.ready c.requires.x_bound.0 c.requires.x_bound.1 c.in-20.is (λ c. refl)
+    alone c.requires.x_bound.0 c.requires.x_bound.1 c.in-20.is (λ c. refl)
 
 pub to_b-requires : goal.to_b-requires
 to_b-requires c =
-    alone c.requires.ready c.requires.x_bound.0 c.requires.x_bound.1 c.in-21.is (λ c. refl)
+    alone c.requires.x_bound.0 c.requires.x_bound.1 c.in-21.is (λ c. refl)
 
 pub ones-requires : goal.ones-requires
 ones-requires c =
-    alone c.requires.ready c.requires.x_bound.0 c.requires.x_bound.1 c.in-22.is (λ c. refl)
+    alone c.requires.x_bound.0 c.requires.x_bound.1 c.in-22.is (λ c. refl)
 
 pub zeros-requires : goal.zeros-requires
 zeros-requires c =
-    alone c.requires.ready c.requires.x_bound.0 c.requires.x_bound.1 c.in-23.is (λ c. refl)
+    alone c.requires.x_bound.0 c.requires.x_bound.1 c.in-23.is (λ c. refl)
 
 pub sum-requires : goal.sum-requires
 sum-requires c =
-    alone c.requires.ready c.requires.x_bound.0 c.requires.x_bound.1 c.in-24.is (λ c. refl)
+    alone c.requires.x_bound.0 c.requires.x_bound.1 c.in-24.is (λ c. refl)
 
 pub difference-requires : goal.difference-requires
 difference-requires c =
-    alone c.requires.ready c.requires.x_bound.0 c.requires.x_bound.1 c.in-25.is (λ c. refl)
+    alone c.requires.x_bound.0 c.requires.x_bound.1 c.in-25.is (λ c. refl)
 
 pub product-requires : goal.product-requires
 product-requires c =
-    alone c.requires.ready c.requires.x_bound.0 c.requires.x_bound.1 c.in-26.is (λ c. refl)
+    alone c.requires.x_bound.0 c.requires.x_bound.1 c.in-26.is (λ c. refl)
 
-pub read_b-requires : goal.read_b-requires
-read_b-requires c =
+pub read-requires : goal.read-requires
+read-requires c =
     record {
-      whole = alone c.requires.ready c.requires.x_bound.0 c.requires.x_bound.1 c.in-28.is (λ c. refl);
+      coded = alone c.requires.x_bound.0 c.requires.x_bound.1 c.in-28.is (λ c. refl);
       window = reached _ _ _ c.requires.ready.reaches;
     }
 
-pub store_b-requires : goal.store_b-requires
-store_b-requires c =
+pub store-requires : goal.store-requires
+store-requires c =
     record {
-      whole = alone c.requires.ready c.requires.x_bound.0 c.requires.x_bound.1 c.in-29.is (λ c. refl);
+      coded = alone c.requires.x_bound.0 c.requires.x_bound.1 c.in-29.is (λ c. refl);
       window = reached _ _ _ c.requires.ready.reaches;
     }
 
-pub read_t-requires : goal.read_t-requires
-read_t-requires c =
+pub read-requires-in-30 : goal.read-requires-in-30
+read-requires-in-30 c =
     record {
-      whole = alone c.requires.ready c.requires.x_bound.0 c.requires.x_bound.1 c.in-30.is (λ c. refl);
+      coded = alone c.requires.x_bound.0 c.requires.x_bound.1 c.in-30.is (λ c. refl);
       window = reached _ _ _ c.requires.ready.reaches;
     }
 
-pub store_t-requires : goal.store_t-requires
-store_t-requires c =
+pub store-requires-in-31 : goal.store-requires-in-31
+store-requires-in-31 c =
     record {
-      whole = alone c.requires.ready c.requires.x_bound.0 c.requires.x_bound.1 c.in-31.is (λ c. refl);
+      coded = alone c.requires.x_bound.0 c.requires.x_bound.1 c.in-31.is (λ c. refl);
       window = reached _ _ _ c.requires.ready.reaches;
     }
 
@@ -139,19 +139,19 @@ returns-in-26 c =
 
 pub returns-in-28 : goal.returns-in-28
 returns-in-28 c =
-    moved_ends _ _ _ _ _ _ _ _ c.read_b.ensures c.moved.ensures _
+    moved_ends _ _ _ _ _ _ _ _ c.read.ensures c.moved.ensures _
 
 pub returns-in-29 : goal.returns-in-29
 returns-in-29 c =
-    moved_ends _ _ _ _ _ _ _ _ c.store_b.ensures c.moved-in-29.ensures _
+    moved_ends _ _ _ _ _ _ _ _ c.store.ensures c.moved-in-29.ensures _
 
 pub returns-in-30 : goal.returns-in-30
 returns-in-30 c =
-    moved_ends _ _ _ _ _ _ _ _ c.read_t.ensures c.moved-in-30.ensures _
+    moved_ends _ _ _ _ _ _ _ _ c.read-in-30.ensures c.moved-in-30.ensures _
 
 pub returns-in-31 : goal.returns-in-31
 returns-in-31 c =
-    moved_ends _ _ _ _ _ _ _ _ c.store_t.ensures c.moved-in-31.ensures _
+    moved_ends _ _ _ _ _ _ _ _ c.store-in-31.ensures c.moved-in-31.ensures _
 
 pub returns-in_default : goal.returns-in_default
 returns-in_default c =

@@ -6,72 +6,72 @@ use Rattle.dispatch.proofs.from_040.Goals as goal
 pub enter-requires : goal.enter-requires
 enter-requires c =
     record {
-      whole = alone c.requires.ready c.requires.x_bound.0 c.requires.x_bound.1 c.in-32.is (λ c. refl);
+      coded = alone c.requires.x_bound.0 c.requires.x_bound.1 c.in-32.is (λ c. refl);
       reaches = c.requires.ready.reaches;
     }
 
 pub enter-requires-in-33 : goal.enter-requires-in-33
 enter-requires-in-33 c =
     record {
-      whole = alone c.requires.ready c.requires.x_bound.0 c.requires.x_bound.1 c.in-33.is (λ c. refl);
+      coded = alone c.requires.x_bound.0 c.requires.x_bound.1 c.in-33.is (λ c. refl);
       reaches = c.requires.ready.reaches;
     }
 
 pub ones_right-requires : goal.ones_right-requires
 ones_right-requires c =
-    alone c.requires.ready c.requires.x_bound.0 c.requires.x_bound.1 c.in-34.is (λ c. refl)
+    alone c.requires.x_bound.0 c.requires.x_bound.1 c.in-34.is (λ c. refl)
 
 pub ones_left-requires : goal.ones_left-requires
 ones_left-requires c =
-    alone c.requires.ready c.requires.x_bound.0 c.requires.x_bound.1 c.in-35.is (λ c. refl)
+    alone c.requires.x_bound.0 c.requires.x_bound.1 c.in-35.is (λ c. refl)
 
 pub and-requires : goal.and-requires
 and-requires c =
-    alone c.requires.ready c.requires.x_bound.0 c.requires.x_bound.1 c.in-36.is (λ c. refl)
+    alone c.requires.x_bound.0 c.requires.x_bound.1 c.in-36.is (λ c. refl)
 
 pub and_not-requires : goal.and_not-requires
 and_not-requires c =
-    alone c.requires.ready c.requires.x_bound.0 c.requires.x_bound.1 c.in-37.is (λ c. refl)
+    alone c.requires.x_bound.0 c.requires.x_bound.1 c.in-37.is (λ c. refl)
 
 pub xor-requires : goal.xor-requires
 xor-requires c =
-    alone c.requires.ready c.requires.x_bound.0 c.requires.x_bound.1 c.in-38.is (λ c. refl)
+    alone c.requires.x_bound.0 c.requires.x_bound.1 c.in-38.is (λ c. refl)
 
 pub eqv-requires : goal.eqv-requires
 eqv-requires c =
-    alone c.requires.ready c.requires.x_bound.0 c.requires.x_bound.1 c.in-39.is (λ c. refl)
+    alone c.requires.x_bound.0 c.requires.x_bound.1 c.in-39.is (λ c. refl)
 
 pub merge-requires : goal.merge-requires
 merge-requires c =
-    alone c.requires.ready c.requires.x_bound.0 c.requires.x_bound.1 c.in-40.is (λ c. refl)
+    alone c.requires.x_bound.0 c.requires.x_bound.1 c.in-40.is (λ c. refl)
 
 pub or-requires : goal.or-requires
 or-requires c =
-    alone c.requires.ready c.requires.x_bound.0 c.requires.x_bound.1 c.in-41.is (λ c. refl)
+    alone c.requires.x_bound.0 c.requires.x_bound.1 c.in-41.is (λ c. refl)
 
 pub left_0-requires : goal.left_0-requires
 left_0-requires c =
-    alone c.requires.ready c.requires.x_bound.0 c.requires.x_bound.1 c.in-42.is (λ c. refl)
+    alone c.requires.x_bound.0 c.requires.x_bound.1 c.in-42.is (λ c. refl)
 
 pub right_0-requires : goal.right_0-requires
 right_0-requires c =
-    alone c.requires.ready c.requires.x_bound.0 c.requires.x_bound.1 c.in-43.is (λ c. refl)
+    alone c.requires.x_bound.0 c.requires.x_bound.1 c.in-43.is (λ c. refl)
 
 pub left-requires : goal.left-requires
 left-requires c =
-    alone c.requires.ready c.requires.x_bound.0 c.requires.x_bound.1 c.in-44.is (λ c. refl)
+    alone c.requires.x_bound.0 c.requires.x_bound.1 c.in-44.is (λ c. refl)
 
 pub right-requires : goal.right-requires
 right-requires c =
-    alone c.requires.ready c.requires.x_bound.0 c.requires.x_bound.1 c.in-45.is (λ c. refl)
+    alone c.requires.x_bound.0 c.requires.x_bound.1 c.in-45.is (λ c. refl)
 
 pub left_pair-requires : goal.left_pair-requires
 left_pair-requires c =
-    alone c.requires.ready c.requires.x_bound.0 c.requires.x_bound.1 c.in-46.is (λ c. refl)
+    alone c.requires.x_bound.0 c.requires.x_bound.1 c.in-46.is (λ c. refl)
 
 pub right_pair-requires : goal.right_pair-requires
 right_pair-requires c =
-    alone c.requires.ready c.requires.x_bound.0 c.requires.x_bound.1 c.in-47.is (λ c. refl)
+    alone c.requires.x_bound.0 c.requires.x_bound.1 c.in-47.is (λ c. refl)
 
 pub from_060-requires : goal.from_060-requires
 from_060-requires c =

@@ -4,38 +4,38 @@ use Rattle.dispatch.proofs.from_060.Goals as goal
 
 pub sum-requires : goal.sum-requires
 sum-requires c =
-    alone c.requires.ready c.requires.x_bound.0 c.requires.x_bound.1 c.in-48.is (λ c. refl)
+    alone c.requires.x_bound.0 c.requires.x_bound.1 c.in-48.is (λ c. refl)
 
 pub difference-requires : goal.difference-requires
 difference-requires c =
-    alone c.requires.ready c.requires.x_bound.0 c.requires.x_bound.1 c.in-49.is (λ c. refl)
+    alone c.requires.x_bound.0 c.requires.x_bound.1 c.in-49.is (λ c. refl)
 
 pub from_a-requires : goal.from_a-requires
 from_a-requires c =
-    alone c.requires.ready c.requires.x_bound.0 c.requires.x_bound.1 c.in-57.is (λ c. refl)
+    alone c.requires.x_bound.0 c.requires.x_bound.1 c.in-57.is (λ c. refl)
 
 pub read_control-requires : goal.read_control-requires
 read_control-requires c =
     record {
-      whole = alone c.requires.ready c.requires.x_bound.0 c.requires.x_bound.1 c.in-59.is (λ c. refl);
+      coded = alone c.requires.x_bound.0 c.requires.x_bound.1 c.in-59.is (λ c. refl);
       frame_ok = (c.requires.ready.frame, c.requires.ready.control, c.requires.ready.processor);
     }
 
 pub from_t-requires : goal.from_t-requires
 from_t-requires c =
-    alone c.requires.ready c.requires.x_bound.0 c.requires.x_bound.1 c.in-60.is (λ c. refl)
+    alone c.requires.x_bound.0 c.requires.x_bound.1 c.in-60.is (λ c. refl)
 
 pub to_t-requires : goal.to_t-requires
 to_t-requires c =
-    alone c.requires.ready c.requires.x_bound.0 c.requires.x_bound.1 c.in-61.is (λ c. refl)
+    alone c.requires.x_bound.0 c.requires.x_bound.1 c.in-61.is (λ c. refl)
 
 pub from_v-requires : goal.from_v-requires
 from_v-requires c =
-    alone c.requires.ready c.requires.x_bound.0 c.requires.x_bound.1 c.in-62.is (λ c. refl)
+    alone c.requires.x_bound.0 c.requires.x_bound.1 c.in-62.is (λ c. refl)
 
 pub to_v-requires : goal.to_v-requires
 to_v-requires c =
-    alone c.requires.ready c.requires.x_bound.0 c.requires.x_bound.1 c.in-63.is (λ c. refl)
+    alone c.requires.x_bound.0 c.requires.x_bound.1 c.in-63.is (λ c. refl)
 
 pub from_100-requires : goal.from_100-requires
 from_100-requires c =

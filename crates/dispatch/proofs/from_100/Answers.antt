@@ -6,28 +6,28 @@ use Rattle.dispatch.proofs.from_100.Goals as goal
 pub load-requires : goal.load-requires
 load-requires c =
     record {
-      whole = (c.requires.ready.long, group _ _ _ c.requires.x_bound.0 c.requires.x_bound.1 c.in-64.is (λ c. refl));
+      coded = group _ _ _ c.requires.x_bound.0 c.requires.x_bound.1 c.in-64.is (λ c. refl);
       reaches = c.requires.ready.reaches;
     }
 
 pub store-requires : goal.store-requires
 store-requires c =
     record {
-      whole = (c.requires.ready.long, group _ _ _ c.requires.x_bound.0 c.requires.x_bound.1 c.in-72.is (λ c. refl));
+      coded = group _ _ _ c.requires.x_bound.0 c.requires.x_bound.1 c.in-72.is (λ c. refl);
       reaches = c.requires.ready.reaches;
     }
 
 pub load-requires-in-80 : goal.load-requires-in-80
 load-requires-in-80 c =
     record {
-      whole = (c.requires.ready.long, group _ _ _ c.requires.x_bound.0 c.requires.x_bound.1 c.in-80.is (λ c. refl));
+      coded = group _ _ _ c.requires.x_bound.0 c.requires.x_bound.1 c.in-80.is (λ c. refl);
       reaches = c.requires.ready.reaches;
     }
 
 pub store-requires-in-88 : goal.store-requires-in-88
 store-requires-in-88 c =
     record {
-      whole = (c.requires.ready.long, group _ _ _ c.requires.x_bound.0 c.requires.x_bound.1 c.in-88.is (λ c. refl));
+      coded = group _ _ _ c.requires.x_bound.0 c.requires.x_bound.1 c.in-88.is (λ c. refl);
       reaches = c.requires.ready.reaches;
     }
 

@@ -15,15 +15,15 @@ returns-in_default c =
 
 pub arm-requires : goal.arm-requires
 arm-requires c =
-    omega (arith, parcel-narrow _ _ _ _ (sym c.fetch.ensures ∙ c.in-Parcel.is))
+    omega (arith, parcel-narrow _ _ _ _ (sym c.fetch.ensures ∙ c.in-Some.is))
 
 pub from_000-requires : goal.from_000-requires
 from_000-requires c =
     record {
       ready = c.requires.ready;
-      x_bound = (parcel-narrow _ _ _ _ (sym c.fetch.ensures ∙ c.in-Parcel.is), c.arm.ensures);
+      x_bound = (parcel-narrow _ _ _ _ (sym c.fetch.ensures ∙ c.in-Some.is), c.arm.ensures);
     }
 
 pub returns : goal.returns
 returns c =
-    works-done _ _ _ _ _ _ _ (sym (fetched _ _ _ _ c.requires.ready.reaches c.requires.p_bound) ∙ sym c.fetch.ensures ∙ c.in-Parcel.is) c.from_000.ensures
+    works-done _ _ _ _ _ _ _ (sym (fetched _ _ _ _ c.requires.ready.reaches c.requires.p_bound) ∙ sym c.fetch.ensures ∙ c.in-Some.is) c.from_000.ensures

@@ -1,19 +1,8 @@
-use Prim.Native.Nat.{ℕ}
-use mathlib.Core.List.{List, [], ◌∷◌}
-use lib.ListN.{get_or}
-use Rattle.machine.specs.Call.{reply_numbers, stray_numbers}
-use Rattle.numbers.specs.Left.{cause, element}
-use Rattle.numbers.proofs.Left.{refused-left, made-left}
+use Rattle.machine.proofs.Refusals.{some-number}
 use Rattle.export.proofs.pulxarrid_step.Goals as goal
 
-pub returns-then-n-ne0 : goal.returns-then-n-ne0
-returns-then-n-ne0 c =
-    rw (← c.step-replied.ensures.call) (refused-left _ (reply_numbers c.step-replied.result.reply) c.of_reply-n.ensures
-    (λ (l : List ℕ). get_or l 1 0 ∷ get_or l 2 0
-    ∷ cause (stray_numbers c.step-replied.result.stray) ∷ element (stray_numbers c.step-replied.result.stray) ∷ []) _ _ _ c.if-n-ne0.true)
+pub returns-in-Ok : goal.returns-in-Ok
+returns-in-Ok c = rw (← rw c.in-Ok.is at c.step.ensures.call, c.kind_of_answer-n.ensures, ← c.of_stray-s.ensures)
 
-pub returns : goal.returns
-returns c =
-    rw (← c.step-replied.ensures.call, ← c.of_stray-s.ensures) (made-left _ (reply_numbers c.step-replied.result.reply) c.of_reply-n.ensures
-    (λ (l : List ℕ). get_or l 1 0 ∷ get_or l 2 0
-    ∷ cause c.of_stray-s.result ∷ element c.of_stray-s.result ∷ []) _ _ c.args.answer.now c.if-n-ne0.false)
+pub returns-in-Err : goal.returns-in-Err
+returns-in-Err c = rw (c.into.ensures, ← rw c.in-Err.is at c.step.ensures.call, some-number c.in-Err.refusal)

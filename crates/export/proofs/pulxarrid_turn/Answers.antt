@@ -1,19 +1,9 @@
-use Prim.Native.Nat.{ℕ}
-use mathlib.Core.List.{List, [], ◌∷◌}
-use lib.ListN.{get_or}
-use Rattle.machine.specs.Call.{last_numbers, stray_numbers}
-use Rattle.numbers.specs.Left.{cause, element}
-use Rattle.numbers.proofs.Left.{refused-left, made-left}
+use Rattle.machine.proofs.Refusals.{some-number}
+use Rattle.numbers.proofs.Left.{last-answered}
 use Rattle.export.proofs.pulxarrid_turn.Goals as goal
 
-pub returns-then-n-ne0 : goal.returns-then-n-ne0
-returns-then-n-ne0 c =
-    rw (← c.turn-turned.ensures.call) (refused-left _ (last_numbers c.turn-turned.result.last) c.of_last-n.ensures
-    (λ (l : List ℕ). get_or l 1 0 ∷ get_or l 2 0 ∷ c.turn-turned.result.steps
-    ∷ cause (stray_numbers c.turn-turned.result.stray) ∷ element (stray_numbers c.turn-turned.result.stray) ∷ []) _ _ _ c.if-n-ne0.true)
+pub returns-in-Ok : goal.returns-in-Ok
+returns-in-Ok c = rw (← rw c.in-Ok.is at c.turn.ensures.call, c.kind_of_last-n.ensures, ← c.of_stray-s.ensures, last-answered c.in-Ok.turned.last)
 
-pub returns : goal.returns
-returns c =
-    rw (← c.turn-turned.ensures.call, ← c.of_stray-s.ensures) (made-left _ (last_numbers c.turn-turned.result.last) c.of_last-n.ensures
-    (λ (l : List ℕ). get_or l 1 0 ∷ get_or l 2 0 ∷ c.turn-turned.result.steps
-    ∷ cause c.of_stray-s.result ∷ element c.of_stray-s.result ∷ []) _ _ c.args.report.now c.if-n-ne0.false)
+pub returns-in-Err : goal.returns-in-Err
+returns-in-Err c = rw (c.into.ensures, ← rw c.in-Err.is at c.turn.ensures.call, some-number c.in-Err.refusal)

@@ -26,31 +26,17 @@ returns-then-n-lt64 c =
     wrote_as (shown-two c.args.n c.if-n-lt8.false c.if-n-lt64.true)
     c.put_two_digits.ensures
 
-pub bounds-line-at-then-n-lt512 : goal.bounds-line-at-then-n-lt512
-bounds-line-at-then-n-lt512 c =
-    let long = long-more c.args.n c.if-n-lt64.false in
-    omega (arith, long, c.requires)
-
 pub put_two_digits-requires-then-n-lt512 : goal.put_two_digits-requires-then-n-lt512
 put_two_digits-requires-then-n-lt512 c =
     let long = long-more c.args.n c.if-n-lt64.false in
     let one = ap length (shown-one (c.args.n / 64) (omega arith)) in
     simp length-set (omega (arith, long, one, c.requires))
 
-pub shape_of-line-then-n-lt512 : goal.shape_of-line-then-n-lt512
-shape_of-line-then-n-lt512 c =
-    c.put_two_digits-then-n-lt512.auto.line ∙ length-set c.args.line.now c.args.at c.digit-then-n-lt512.result
-
 pub returns-then-n-lt512 : goal.returns-then-n-lt512
 returns-then-n-lt512 c =
     let text = shown-more c.args.n c.if-n-lt64.false ∙ ap (λ (l : List ℕ). l ++ digits 8 2 c.args.n) (shown-one (c.args.n / 64) (omega arith)) in
     wrote_as text (placed (then (wrote-digit (c.args.n / 64) _ c.digit-then-n-lt512.ensures)
     c.put_two_digits-then-n-lt512.ensures) (omega arith))
-
-pub put_two_digits-requires-2 : goal.put_two_digits-requires-2
-put_two_digits-requires-2 c =
-    let long = long-more c.args.n c.if-n-lt64.false in
-    omega (arith, long, c.requires)
 
 pub put_two_digits-requires-3 : goal.put_two_digits-requires-3
 put_two_digits-requires-3 c =

@@ -10,9 +10,6 @@ invariant-loop-d l =
     (l.d ≤ 6) × (l.p < 8 ^ l.d) × (all_digits 8 6 l.text l.at ≡ all_digits 8 (6 - l.d) l.text (l.at + l.d)) ×
     (number_from 8 6 l.text l.at 0 ≡ number_from 8 (6 - l.d) l.text (l.at + l.d) l.p)
 
-abbrev pub decreases-loop-d : goal.decreases-loop-d
-decreases-loop-d l = 6 - l.d
-
 abbrev pub invariant-lines : goal.invariant-lines
 invariant-lines l = (l.at + 7 ≡ 7 * l.line) × (bad_line (length l.text) l.text 0 1 ≡ bad_line (length l.text + 1 - l.line) l.text l.at l.line)
 

@@ -1,43 +1,30 @@
-use mathlib.Core.Path.{sym, ◌∙◌}
-use native.Mathlib.Omega.{arith}
-use borrow.Author.Tests.{le-leb, lt-leb, eq-eqb, ne_eqb}
+use mathlib.Core.Path.{refl, sym, ◌∙◌}
+use borrow.Author.Tests.{le-leb, lt-leb}
 use Rattle.octal.specs.Lines.{octal_of}
 use Rattle.octal.proofs.Line.{parcels-length}
 use Rattle.octal.proofs.read.Goals as goal
 
-pub returns-then-bad-ne0 : goal.returns-then-bad-ne0
+pub returns-in-Some : goal.returns-in-Some
 unfolding octal_of
-returns-then-bad-ne0 c = record {
-  value = rw (← c.bad_line-bad.ensures, ne_eqb _ _ c.if-bad-ne0.true);
-  room_after = rw (← c.bad_line-bad.ensures, ne_eqb _ _ c.if-bad-ne0.true);
+returns-in-Some c = record {
+  value = rw (← c.in-Some.ensures) refl;
+  room_after = rw (← c.in-Some.ensures) refl;
 }
 
 pub returns-then-room-n : goal.returns-then-room-n
 unfolding octal_of
-returns-then-room-n c = record {
-  value = simp (← c.bad_line-bad.ensures, eq-eqb _ _ c.if-bad-ne0.false, parcels-length, lt-leb _ _ c.if-room-n.true);
-  room_after = simp (← c.bad_line-bad.ensures, eq-eqb _ _ c.if-bad-ne0.false, parcels-length, lt-leb _ _ c.if-room-n.true);
-}
-
-pub store-requires : goal.store-requires
-store-requires c = (sym c.bad_line-bad.ensures ∙ c.if-bad-ne0.false, omega arith, c.if-room-n.false)
+returns-then-room-n c =
+    let e = sym c.bad_line.ensures ∙ c.in_default.is in
+    record {
+      value = simp (e, parcels-length, lt-leb _ _ c.if-room-n.true);
+      room_after = simp (e, parcels-length, lt-leb _ _ c.if-room-n.true);
+    }
 
 pub returns : goal.returns
 unfolding octal_of
-returns c = record {
-  value = simp (
-    ← c.bad_line-bad.ensures,
-    eq-eqb _ _
-        c.if-bad-ne0.false,
-    parcels-length,
-    le-leb _ _ c.if-room-n.false,
-  );
-  room_after = simp (
-    ← c.bad_line-bad.ensures,
-    eq-eqb _ _
-        c.if-bad-ne0.false,
-    parcels-length,
-    le-leb _ _ c.if-room-n.false,
-  )
-      c.store.ensures;
-}
+returns c =
+    let e = sym c.bad_line.ensures ∙ c.in_default.is in
+    record {
+      value = simp (e, parcels-length, le-leb _ _ c.if-room-n.false);
+      room_after = simp (e, parcels-length, le-leb _ _ c.if-room-n.false) c.store.ensures;
+    }

@@ -1,13 +1,12 @@
-use mathlib.Core.Path.{refl}
+use Rattle.std.proofs.Common.{refl, arith}
 use Rattle.refusal.proofs.Laws.{joins-on, joins-all}
-use borrow.Author.Rules.{rules}
 use Rattle.refusal.proofs.joined.Goals as goal
 
-pub loop-e-init : goal.loop-e-init
-loop-e-init c = (search rules, refl)
+pub loop-n-init : goal.loop-n-init
+loop-n-init c = refl
 
-pub loop-e-preserved : goal.loop-e-preserved
-loop-e-preserved c = (search rules, joins-on _ _ _ c.loop-e.invariant.1 c.loop-e-test.true)
+pub loop-n-preserved : goal.loop-n-preserved
+loop-n-preserved c = joins-on c.args.numbers.now _ _ c.loop-n.invariant (omega arith)
 
 pub returns : goal.returns
-returns c = joins-all _ _ _ c.loop-e.invariant.1 c.loop-e-test.false
+returns c = joins-all c.args.numbers.now _ _ c.loop-n.invariant (omega arith)

@@ -1,11 +1,6 @@
-use Prim.Native.Nat.{◌-◌, ◌≤◌}
-use mathlib.Core.Path.{◌≡◌}
-use lib.ListN.{length, drop}
+use Rattle.std.proofs.Common.{◌≡◌, drop}
 use Rattle.refusal.specs.Joined.{joined}
 use Rattle.refusal.proofs.joined.Given as goal
 
-abbrev pub invariant-loop-e : goal.invariant-loop-e
-invariant-loop-e l = (l.e ≤ length l.numbers) × (joined l.all (drop l.e l.numbers) ≡ joined 0 l.numbers)
-
-abbrev pub decreases-loop-e : goal.decreases-loop-e
-decreases-loop-e l = length l.numbers - l.e
+abbrev pub invariant-loop-n : goal.invariant-loop-n
+invariant-loop-n l = joined l.all (drop l.n-index l.numbers) ≡ joined 0 l.numbers

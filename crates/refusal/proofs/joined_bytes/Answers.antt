@@ -1,13 +1,12 @@
-use mathlib.Core.Path.{refl}
+use Rattle.std.proofs.Common.{refl, arith}
 use Rattle.refusal.proofs.Laws.{joins-on, joins-all}
-use borrow.Author.Rules.{rules}
 use Rattle.refusal.proofs.joined_bytes.Goals as goal
 
-pub loop-e-init : goal.loop-e-init
-loop-e-init c = (search rules, refl)
+pub loop-b-init : goal.loop-b-init
+loop-b-init c = refl
 
-pub loop-e-preserved : goal.loop-e-preserved
-loop-e-preserved c = (search rules, joins-on _ _ _ c.loop-e.invariant.1 c.loop-e-test.true)
+pub loop-b-preserved : goal.loop-b-preserved
+loop-b-preserved c = joins-on c.args.bytes.now _ _ c.loop-b.invariant (omega arith)
 
 pub returns : goal.returns
-returns c = joins-all _ _ _ c.loop-e.invariant.1 c.loop-e-test.false
+returns c = joins-all c.args.bytes.now _ _ c.loop-b.invariant (omega arith)

@@ -1,11 +1,6 @@
-use Prim.Native.Nat.{◌-◌, ◌≤◌}
-use mathlib.Core.Path.{◌≡◌}
-use lib.ListN.{length, drop}
+use Rattle.std.proofs.Common.{◌≡◌, drop}
 use Rattle.refusal.specs.Joined.{joined}
 use Rattle.refusal.proofs.joined_bytes.Given as goal
 
-abbrev pub invariant-loop-e : goal.invariant-loop-e
-invariant-loop-e l = (l.e ≤ length l.bytes) × (joined l.all (drop l.e l.bytes) ≡ joined 0 l.bytes)
-
-abbrev pub decreases-loop-e : goal.decreases-loop-e
-decreases-loop-e l = length l.bytes - l.e
+abbrev pub invariant-loop-b : goal.invariant-loop-b
+invariant-loop-b l = joined l.all (drop l.b-index l.bytes) ≡ joined 0 l.bytes

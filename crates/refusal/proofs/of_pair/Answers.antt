@@ -1,7 +1,7 @@
 use native.Mathlib.Omega.{arith}
 use borrow.Author.Tests.{lt-ltb, le-ltb}
 use Rattle.machine.specs.Refusal.{pair_refusal, first_due}
-use Rattle.machine.specs.Layout.{part, frame_of}
+use Rattle.machine.specs.Layout.{frame_of}
 use Rattle.refusal.proofs.Laws.{list-test}
 use Rattle.refusal.proofs.of_pair.Goals as goal
 
@@ -10,19 +10,21 @@ unfolding pair_refusal first_due
 returns-then-not-memory_fits c = rw (← c.memory_fits.ensures, c.if-not-memory_fits.true-raw)
 
 pub returns-then-not-first-second : goal.returns-then-not-first-second
-unfolding pair_refusal first_due frame_of part
+unfolding pair_refusal first_due frame_of
 returns-then-not-first-second c =
-    rw (← c.memory_fits.ensures, c.if-not-memory_fits.false-raw, c.if-not-first-second.true-raw)
+    rw (← c.half-first.ensures, ← c.half-second.ensures, ← c.memory_fits.ensures, c.if-not-memory_fits.false-raw, c.if-not-first-second.true-raw)
 
 pub returns-then-schedule-gt65536 : goal.returns-then-schedule-gt65536
-unfolding pair_refusal first_due frame_of part
+unfolding pair_refusal first_due frame_of
 returns-then-schedule-gt65536 c =
-    rw (← c.memory_fits.ensures, c.if-not-memory_fits.false-raw, c.if-not-first-second.false-raw, lt-ltb _ _ c.if-schedule-gt65536.true)
+    rw (← c.half-first.ensures, ← c.half-second.ensures, ← c.memory_fits.ensures, c.if-not-memory_fits.false-raw, c.if-not-first-second.false-raw, lt-ltb _ _ c.if-schedule-gt65536.true)
 
 pub returns-then-joined_bytes-gt1 : goal.returns-then-joined_bytes-gt1
-unfolding pair_refusal first_due frame_of part
+unfolding pair_refusal first_due frame_of
 returns-then-joined_bytes-gt1 c =
     rw (
+      ← c.half-first.ensures,
+      ← c.half-second.ensures,
       ← c.memory_fits.ensures,
       c.if-not-memory_fits.false-raw,
       c.if-not-first-second.false-raw,
@@ -32,9 +34,11 @@ returns-then-joined_bytes-gt1 c =
     )
 
 pub returns-then-not-numbers_fit : goal.returns-then-not-numbers_fit
-unfolding pair_refusal first_due frame_of part
+unfolding pair_refusal first_due frame_of
 returns-then-not-numbers_fit c =
     rw (
+      ← c.half-first.ensures,
+      ← c.half-second.ensures,
       ← c.memory_fits.ensures,
       c.if-not-memory_fits.false-raw,
       c.if-not-first-second.false-raw,
@@ -47,9 +51,11 @@ returns-then-not-numbers_fit c =
     )
 
 pub returns : goal.returns
-unfolding pair_refusal first_due frame_of part
+unfolding pair_refusal first_due frame_of
 returns c =
     rw (
+      ← c.half-first.ensures,
+      ← c.half-second.ensures,
       ← c.memory_fits.ensures,
       c.if-not-memory_fits.false-raw,
       c.if-not-first-second.false-raw,

@@ -7,4 +7,4 @@ pub returns : goal.returns
 unfolding code_of act
 returns c =
     λ p mem. puts ones_right_s _ _ _ _ mem p _ c.put_s.ensures
-    (rw c.requires.1) (rw c.ones_right.ensures)
+    (rw c.requires) (rw c.ones_right.ensures)

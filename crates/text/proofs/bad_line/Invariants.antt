@@ -1,22 +1,15 @@
-use mathlib.Core.Path.{◌≡◌}
-use Prim.Native.Nat.{◌+◌, ◌*◌, ◌-◌, ◌^◌, ◌≤◌, ◌<◌}
+use Rattle.std.proofs.Common.{◌≡◌, ◌+◌, ◌*◌, ◌-◌, ◌^◌, ◌≤◌, ◌<◌}
 use Rattle.text.specs.Digits.{all_hex, hex_from}
 use Rattle.text.specs.Sheet.{bad_line}
 use Rattle.text.proofs.bad_line.Given as goal
 
 abbrev pub invariant-loop-d : goal.invariant-loop-d
 invariant-loop-d l =
-    (l.d ≤ 4) × (l.address < 16 ^ l.d) × (all_hex 4 l.text l.at ≡ all_hex (4 - l.d) l.text (l.at + l.d)) ×
-    (hex_from 4 l.text l.at 0 ≡ hex_from (4 - l.d) l.text (l.at + l.d) l.address)
-
-abbrev pub decreases-loop-d : goal.decreases-loop-d
-decreases-loop-d l = 4 - l.d
+    (l.address < 16 ^ l.d) × (all_hex 4 l.text l.at ≡ all_hex (4 - l.d) l.text (l.at + l.d))
+    × (hex_from 4 l.text l.at 0 ≡ hex_from (4 - l.d) l.text (l.at + l.d) l.address)
 
 abbrev pub invariant-loop-d-2 : goal.invariant-loop-d-2
-invariant-loop-d-2 l = (5 ≤ l.d) × (l.d ≤ 21) × (all_hex 16 l.text (l.at + 5) ≡ all_hex (21 - l.d) l.text (l.at + l.d))
-
-abbrev pub decreases-loop-d-2 : goal.decreases-loop-d-2
-decreases-loop-d-2 l = 21 - l.d
+invariant-loop-d-2 l = all_hex 16 l.text (l.at + 5) ≡ all_hex (21 - l.d) l.text (l.at + l.d)
 
 abbrev pub invariant-lines : goal.invariant-lines
 invariant-lines l =

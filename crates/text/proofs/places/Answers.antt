@@ -1,18 +1,9 @@
-use mathlib.Core.Path.{◌≡◌, refl, subst}
+use mathlib.Core.Path.{◌≡◌, subst}
 use Prim.Native.Nat.{ℕ, suc, ◌+◌, ◌-◌, ◌/◌, ◌^◌, ◌≤◌, ◌<◌}
 use native.Mathlib.Nat.{div-lt_self}
 use native.Mathlib.Omega.{arith}
 use Rattle.text.proofs.Writing.{places-next, places-last, one_fewer, two-left}
 use Rattle.text.proofs.places.Goals as goal
-
-pub loop-rest-init : goal.loop-rest-init
-loop-rest-init c = (omega arith, c.ranges.n.fits, (c.args.n, omega arith, refl))
-
-pub overflow_add-k : goal.overflow_add-k
-overflow_add-k c = omega (arith, c.requires)
-
-pub loop-rest-smaller : goal.loop-rest-smaller
-loop-rest-smaller c = div-lt_self (omega (arith, c.requires)) c.requires
 
 pub loop-rest-preserved : goal.loop-rest-preserved
 loop-rest-preserved c =

@@ -8,9 +8,6 @@ pub returns-then-old-new : goal.returns-then-old-new
 unfolding change_text
 returns-then-old-new c = (rw (eq-eqb _ _ c.if-old-new.true) (wrote_none _ _), omega arith)
 
-pub put_line-requires : goal.put_line-requires
-put_line-requires c = omega (arith, c.put_number-equals.ensures.1)
-
 pub returns : goal.returns
 unfolding change_text
 returns c = (

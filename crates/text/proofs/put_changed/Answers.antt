@@ -14,6 +14,6 @@ returns c = record {
       c.put_line-words.ensures.0 c.put_changes.ensures);
   upper_bound = λ short. omega (
     arith,
-    words-most c.args.before.now c.args.after.now (λ i. (c.shared_slice_known-2-1.given i).fits) c.compared-n.result 0 (omega arith),
+    words-most c.args.before.now c.args.after.now (λ i. (c.type_inv.after i).fits) c.compared-n.result 0 (omega arith),
   );
 }

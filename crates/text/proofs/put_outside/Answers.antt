@@ -2,12 +2,12 @@ use native.Mathlib.Omega.{arith}
 use Rattle.text.specs.Report.{outside_line}
 use Rattle.text.proofs.put_outside.Goals as goal
 
-pub returns-in-Clean : goal.returns-in-Clean
+pub returns-in-None : goal.returns-in-None
 unfolding outside_line
-returns-in-Clean c =
-    (rw c.in-Clean.is c.put_text.ensures.0, omega (arith, c.put_text.ensures.1))
+returns-in-None c =
+    (rw c.in-None.is c.put_text.ensures.0, omega (arith, c.put_text.ensures.1))
 
-pub returns-in-First : goal.returns-in-First
+pub returns-in-Some : goal.returns-in-Some
 unfolding outside_line
-returns-in-First c =
-    (rw c.in-First.is c.put_stray.ensures.0, c.put_stray.ensures.1)
+returns-in-Some c =
+    (rw c.in-Some.is c.put_stray.ensures.0, c.put_stray.ensures.1)

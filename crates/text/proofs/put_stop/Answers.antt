@@ -1,22 +1,9 @@
 use Rattle.text.specs.Report.{stop_line}
 use Rattle.text.proofs.put_stop.Goals as goal
 
-pub returns-in-Budget : goal.returns-in-Budget
-unfolding stop_line
-returns-in-Budget c =
-    (rw c.in-Budget.is c.put_text.ensures.0, c.put_text.ensures.1)
+pub returns-in-Ok : goal.returns-in-Ok
+returns-in-Ok c = (rw c.in-Ok.is c.put_ending.ensures.0, c.put_ending.ensures.1)
 
-pub returns-in-NotHeld : goal.returns-in-NotHeld
+pub returns-in-Err : goal.returns-in-Err
 unfolding stop_line
-returns-in-NotHeld c =
-    (rw c.in-NotHeld.is c.put_text-in-NotHeld.ensures.0, c.put_text-in-NotHeld.ensures.1)
-
-pub returns-in-MonitorFetch : goal.returns-in-MonitorFetch
-unfolding stop_line
-returns-in-MonitorFetch c =
-    (rw c.in-MonitorFetch.is c.put_text-in-MonitorFetch.ensures.0, c.put_text-in-MonitorFetch.ensures.1)
-
-pub returns-in-Refused : goal.returns-in-Refused
-unfolding stop_line
-returns-in-Refused c =
-    (rw c.in-Refused.is c.put_text-in-Refused.ensures.0, c.put_text-in-Refused.ensures.1)
+returns-in-Err c = (rw c.in-Err.is c.put_text.ensures.0, c.put_text.ensures.1)

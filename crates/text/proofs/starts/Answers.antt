@@ -1,26 +1,13 @@
-use mathlib.Core.Path.{◌≡◌, sym, ◌∙◌}
-use native.Mathlib.Nat.{add-zero}
-use native.Mathlib.Omega.{arith}
-use lib.ListN.{length}
-use Rattle.text.proofs.Reading.{starts-next, starts-not, starts-done}
+use Rattle.std.proofs.Common.{◌+◌, ℕ, eqb, rules, tests, ◌∙◌, add-zero}
+use Rattle.std.proofs.lemmas.Iterator.{YieldsList-from_slice}
+use Rattle.std.proofs.lemmas.Iterator.Consumers.{YieldsList-from_enumerate}
+use Rattle.std.proofs.lemmas.Iterator.Search.{all_from_yields_List}
+use Rattle.text.specs.Digits.{byte_at}
+use Rattle.text.proofs.Reading.{starts_all}
 use Rattle.text.proofs.starts.Goals as goal
-
-pub loop-i-init : goal.loop-i-init
-loop-i-init c = (omega arith, simp add-zero)
-
-pub returns-then-byte_at-name : goal.returns-then-byte_at-name
-returns-then-byte_at-name c =
-    sym (c.loop-i.invariant.1
-    ∙ starts-not _ _ _ _ c.loop-i-test.true (λ q. c.if-byte_at-name.true (c.byte_at.ensures ∙ q)))
-
-pub loop-i-preserved : goal.loop-i-preserved
-loop-i-preserved c = (
-  omega arith,
-  c.loop-i.invariant.1
-      ∙ starts-next _ _ _ _ c.loop-i-test.true (sym c.byte_at.ensures ∙ c.if-byte_at-name.false),
-)
 
 pub returns : goal.returns
 returns c =
-    let e : c.loop-i.i ≡ length c.args.name.now = omega arith in
-    sym (c.loop-i.invariant.1 ∙ starts-done _ _ _ _ e)
+    all_from_yields_List (λ (p : ℕ × ℕ). eqb (byte_at c.args.text.now (c.args.at + p.0)) p.1) _ _ c.all.result c.all.ensures.ran
+    (YieldsList-from_enumerate (YieldsList-from_slice c.args.name.now (search rules)) (search rules)) (λ x b q k. search (rules, tests))
+    ∙ rw add-zero at (starts_all c.args.text.now c.args.name.now c.args.at 0)

@@ -1,5 +1,5 @@
 use Rattle.turns.proofs.last_goes.Goals as goal
 
-pub returns-in-Was : goal.returns-in-Was
-returns-in-Was c =
-    rw c.in-Was.is c.answer_goes.ensures
+pub returns-in-Some : goal.returns-in-Some
+returns-in-Some c =
+    rw c.in-Some.is c.answer_goes.ensures

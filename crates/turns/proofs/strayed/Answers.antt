@@ -5,10 +5,7 @@ use Rattle.turns.proofs.strayed.Goals as goal
 
 pub of-stray-requires : goal.of-stray-requires
 of-stray-requires c =
-    record {
-      whole = c.requires.fitting.long;
-      bounds = (c.requires.fitting.frame.dba, c.requires.fitting.frame.dla);
-    }
+    record { bounds = (c.requires.fitting.frame.dba, c.requires.fitting.frame.dla) }
 
 pub overflow_add-result : goal.overflow_add-result
 overflow_add-result c =

@@ -42,7 +42,7 @@ loop-steps-smaller c =
 
 pub loop-steps-preserved : goal.loop-steps-preserved
 loop-steps-preserved c =
-    rw c.or_else-stray.ensures
+    rw c.or-stray.ensures
     (runs_on _ _ _ _ _ _ _ _ _ _ _ _ _ _ _ _ _ c.loop-steps.invariant (omega (arith, c.loop-steps-test.true))
     (sym c.last_goes.ensures ∙ c.if-last_goes.true) c.stretch-came.ensures c.end-next.ensures).0
 

@@ -20,7 +20,7 @@ returns-in_default c =
 
 pub loop-left-preserved : goal.loop-left-preserved
 loop-left-preserved c =
-    goes_on_lem _ _ _ _ _ _ _ _ _ _ _ _ c.loop-left.invariant c.loop-left-test.true c.work-w.ensures (search rules) _ (sym c.move_p.ensures ∙ c.in-At.is)
+    goes_on_lem _ _ _ _ _ _ _ _ _ _ _ _ c.loop-left.invariant c.loop-left-test.true c.work-w.ensures (search rules) _ (sym c.move_p.ensures ∙ c.in-Some.is)
 
 pub returns : goal.returns
 returns c = spent _ _ _ _ _ _ _ _ _ c.loop-left.invariant c.loop-left-test.false

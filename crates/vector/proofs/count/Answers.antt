@@ -5,6 +5,7 @@ use mathlib.Core.Path.{◌≡◌, refl}
 use Rattle.machine.specs.Act.{ones_v, parity_v}
 use Rattle.machine.specs.Codes.{holds_one, holds_none, nth, code_of}
 use Rattle.access.proofs.Leaf.{not-held}
+use borrow.Author.Rules.{rules}
 use Rattle.vector.proofs.count.Goals as goal
 
 -- only 174ij1 and 174ij2 are held
@@ -17,4 +18,4 @@ none-174 (suc (suc (suc k))) h g = refl
 pub returns-in_default : goal.returns-in_default
 unfolding code_of
 returns-in_default c =
-    λ p mem. not-held _ mem p _ (rw (c.requires.1, ← c.k.ensures, none-174 c.k.result c.in_default.in_default-own.rest.0.1 c.in_default.in_default-own.rest.1))
+    λ p mem. not-held _ mem p _ (rw (c.requires.1, ← c.k.ensures, none-174 c.k.result (search rules) (search rules)))

@@ -1,7 +1,6 @@
 use Prim.Native.Nat.{◌+◌, ◌-◌}
 use mathlib.Core.Path.{◌∙◌, refl}
 use native.Mathlib.Omega.{arith}
-use lib.ListN.{length-set}
 use borrow.Author.Tests.{eq-eqb, ne_eqb}
 use Rattle.machine.specs.Parcel.{j_of}
 use Rattle.machine.specs.Act.{left_pair_v, act}
@@ -13,34 +12,29 @@ use borrow.Author.Rules.{rules}
 use Rattle.vector.proofs.left_pairs.Goals as goal
 
 pub loop-e-init : goal.loop-e-init
-loop-e-init c = (begins _ _ _ _ (search rules), search rules)
+loop-e-init c = begins _ _ _ _ (search rules)
 
 pub loop-e-preserved : goal.loop-e-preserved
-loop-e-preserved c = (
-  goes c.loop-e.invariant.0 _ _ (omega arith)
-      (c.left_pair.ensures
-      ∙ rw (
-        ne_eqb (c.loop-e.e + 1) (registers_of c.args.r.now).vl (omega arith),
-        reads c.loop-e.invariant.0 (j_of c.args.x) c.loop-e.e (c.v_j-from.result + c.loop-e.e) (omega arith),
-        reads c.loop-e.invariant.0 (j_of c.args.x) (c.loop-e.e + 1) (c.v_j-from.result + c.loop-e.e + 1) (omega arith),
-        c.a_k-count.ensures,
-      )),
-  omega arith,
-)
-
-pub shape_of-r : goal.shape_of-r
-shape_of-r c = simp length-set (omega arith)
+loop-e-preserved c =
+    goes c.loop-e.invariant _ _ (omega arith)
+    (c.left_pair.ensures
+    ∙ rw (
+      ne_eqb (c.loop-e.e + 1) (registers_of c.args.r.now).vl (omega arith),
+      reads c.loop-e.invariant (j_of c.args.x) c.loop-e.e (c.first-from.result + c.loop-e.e) (omega arith),
+      reads c.loop-e.invariant (j_of c.args.x) (c.loop-e.e + 1) (c.first-from.result + c.loop-e.e + 1) (omega arith),
+      c.a_k-count.ensures,
+    ))
 
 pub returns : goal.returns
 unfolding code_of act
 returns c =
     λ p mem. puts left_pair_v _ _ _ _ mem p _ (
       refl,
-      ends (goes c.loop-e.invariant.0 _ _ (omega arith)
+      ends (goes c.loop-e.invariant _ _ (omega arith)
           (c.left_pair-2.ensures
           ∙ rw (
             eq-eqb (c.loop-e.e + 1) (registers_of c.args.r.now).vl (omega arith),
-            reads c.loop-e.invariant.0 (j_of c.args.x) c.loop-e.e (c.v_j-from.result + (c.vl-last.result - 1)) (omega arith),
+            reads c.loop-e.invariant (j_of c.args.x) c.loop-e.e (c.first-from.result + (c.vl-last.result - 1)) (omega arith),
             c.a_k-count.ensures,
           ))) (omega arith),
     )

@@ -1,4 +1,3 @@
-use Prim.Native.Nat.{◌-◌, ◌≤◌}
 use Rattle.machine.specs.Word.{shift_left_pair}
 use Rattle.machine.specs.Parcel.{k_of}
 use Rattle.machine.specs.State.{ak}
@@ -9,9 +8,5 @@ use Rattle.vector.proofs.left_pairs.Given as goal
 
 abbrev pub invariant-loop-e : goal.invariant-loop-e
 invariant-loop-e l =
-    Doing l.x (registers_of l.initial.r).vl (λ q. shift_left_pair (vj l.initial.r l.x q)
-    (after (registers_of l.initial.r).vl (vj l.initial.r l.x) q) (ak (registers_of l.initial.r) (k_of l.x))) l.initial.r l.r l.e
-    × (l.e ≤ l.last)
-
-abbrev pub decreases-loop-e : goal.decreases-loop-e
-decreases-loop-e l = l.last - l.e
+    Doing l.x (registers_of l.fn.r).vl (λ q. shift_left_pair (vj l.fn.r l.x q)
+    (after (registers_of l.fn.r).vl (vj l.fn.r l.x) q) (ak (registers_of l.fn.r) (k_of l.x))) l.fn.r l.r l.e

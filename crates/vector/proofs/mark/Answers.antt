@@ -14,5 +14,5 @@ returns-then-i-ne0 c =
 pub returns-in_default : goal.returns-in_default
 unfolding code_of
 returns-in_default c =
-    let h : 4 ≤ c.k.result = omega (arith, c.in_default.in_default-own.rest) in
+    let h : 4 ≤ c.k.result = omega arith in
     λ p mem. not-held _ mem p _ (rw (c.requires.1, ← c.i.ensures, c.if-i-ne0.false, ← c.k.ensures, get_or-eq_default _ _ h))

@@ -1,4 +1,5 @@
-use Prim.Native.Nat.{◌+◌}
+use Prim.Native.Nat.{◌+◌, ◌*◌}
+use mathlib.Core.Path.{◌≡◌}
 use native.Mathlib.Omega.{arith}
 use Rattle.machine.specs.Layout.{registers_of}
 use Rattle.vector.proofs.Loops.{begins, ends}
@@ -7,41 +8,22 @@ use Rattle.vector.proofs.Merges.{shift-more, goes_one, goes-four}
 use borrow.Author.Rules.{rules}
 use Rattle.vector.proofs.merge_by.Goals as goal
 
-pub loop-e-init : goal.loop-e-init
-loop-e-init c = (begins _ _ _ _ (search rules), omega arith, omega arith, omega arith)
+pub loop-q-init : goal.loop-q-init
+loop-q-init c = (begins _ _ _ _ (search rules), omega arith)
 
-pub two-requires-in-loop-e : goal.two-requires-in-loop-e
-two-requires-in-loop-e c =
-    record {
-      whole = (search rules, c.requires.1);
-      left_bound = omega arith;
-    }
+pub loop-q-preserved : goal.loop-q-preserved
+loop-q-preserved c =
+    let four : (c.loop-q.q + 1) * 4 ≡ c.loop-q.q * 4 + 4 = omega arith in
+    rw four (
+      goes-four c.args.scalar c.args.x c.vl-n.result c.args.r.now c.named_by-operands.result c.named_by-operands.ensures (omega arith) (c.loop-q.q * 4) c.loop-q.bits
+          _ _ _ c.loop-q.invariant.0 (omega arith) c.loop-q.invariant.1 c.two.ensures c.two-in-loop-q.ensures,
+      rw c.loop-q.invariant.1 (shift-more (registers_of c.args.r.now).vm (c.loop-q.q * 4) 4 (omega arith)),
+    )
 
 pub loop-e-preserved : goal.loop-e-preserved
-loop-e-preserved c = (
-  goes-four c.args.scalar c.args.x c.vl-n.result c.s_j-s.result _ c.s_j-s.ensures (omega arith) c.loop-e.e c.loop-e.bits
-      (c.v_j-left.result + c.loop-e.e) (c.v_k-right.result + c.loop-e.e) (c.v_i-to.result + c.loop-e.e) _ _ _ c.loop-e.invariant.0
-      (omega arith) c.loop-e.invariant.1 (omega arith)
-      c.two.ensures c.two-in-loop-e.ensures,
-  rw c.loop-e.invariant.1 (shift-more (registers_of c.args.r.now).vm c.loop-e.e 4 (omega arith)),
-  omega arith,
-  omega arith,
-)
-
-pub loop-e-2-init : goal.loop-e-2-init
-loop-e-2-init c = record { within = c.loop-e.invariant.0.within; long = c.loop-e.invariant.0.long; on = λ w a b d. d }
-
-pub loop-e-2-preserved : goal.loop-e-2-preserved
-loop-e-2-preserved c =
-    record {
-      within = omega arith;
-      long = search rules;
-      on = λ w a b d.
-          goes_one c.args.scalar c.args.x c.vl-n.result c.s_j-s.result w a (omega arith) c.loop-e-2.e
-          (c.v_j-left.result + c.loop-e-2.e) (c.v_k-right.result + c.loop-e-2.e) _ _ _ _ (c.loop-e-2.invariant.on w a b d) (omega arith) (omega arith)
-          c.left_of.ensures (rw (← b) c.chosen.ensures);
-    }
+loop-e-preserved c =
+    goes_one c.args.scalar c.args.x c.vl-n.result c.args.r.now c.named_by-operands.result c.named_by-operands.ensures (omega arith) c.loop-e.e _ _ c.loop-e.invariant
+    (omega arith) (cc)
 
 pub returns : goal.returns
-returns c =
-    merging _ _ _ c.args.scalar c.requires.2 (ends (c.loop-e-2.invariant.on _ c.s_j-s.ensures c.vm-vm.ensures c.loop-e.invariant.0) (omega arith))
+returns c = merging _ _ _ c.args.scalar c.requires.2 (ends c.loop-e.invariant (omega arith))

@@ -15,7 +15,7 @@ loop-e-init c = (begins _ _ _ _ (search rules), refl)
 
 pub loop-e-preserved : goal.loop-e-preserved
 loop-e-preserved c =
-    let low = reads c.loop-e.invariant.0 (j_of c.args.x) c.loop-e.e (c.v_j-from.result + c.loop-e.e) (omega arith) in
+    let low = reads c.loop-e.invariant.0 (j_of c.args.x) c.loop-e.e (c.first-from.result + c.loop-e.e) (omega arith) in
     (goes c.loop-e.invariant.0 _ _ (omega arith) (cc low), rw add-one low)
 
 pub returns : goal.returns

@@ -1,4 +1,3 @@
-use Prim.Native.Nat.{◌-◌}
 use mathlib.Core.Path.{◌≡◌}
 use Rattle.machine.specs.Word.{shift_right_pair}
 use Rattle.machine.specs.Parcel.{k_of}
@@ -10,8 +9,5 @@ use Rattle.vector.proofs.right_pairs.Given as goal
 
 abbrev pub invariant-loop-e : goal.invariant-loop-e
 invariant-loop-e l =
-    Doing l.x l.n (λ q. shift_right_pair (before (vj l.initial.r l.x) q) (vj l.initial.r l.x q)
-    (ak (registers_of l.initial.r) (k_of l.x))) l.initial.r l.r l.e × (l.high ≡ before (vj l.initial.r l.x) l.e)
-
-abbrev pub decreases-loop-e : goal.decreases-loop-e
-decreases-loop-e l = l.n - l.e
+    Doing l.x l.n (λ q. shift_right_pair (before (vj l.fn.r l.x) q) (vj l.fn.r l.x q)
+    (ak (registers_of l.fn.r) (k_of l.x))) l.fn.r l.r l.e × (l.high ≡ before (vj l.fn.r l.x) l.e)

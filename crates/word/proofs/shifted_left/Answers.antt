@@ -1,11 +1,7 @@
-use Rattle.std.proofs.Common.{sym, rules}
+use Rattle.std.proofs.Common.{sym}
 use Rattle.machine.specs.Word.{shift_left}
 use Rattle.word.proofs.Laws.{left-past}
 use Rattle.word.proofs.shifted_left.Goals as goal
-
-pub returns-then-n-lt64 : goal.returns-then-n-lt64
-unfolding shift_left
-returns-then-n-lt64 c = search rules
 
 pub returns-else-n-lt64 : goal.returns-else-n-lt64
 unfolding shift_left

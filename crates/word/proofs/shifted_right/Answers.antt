@@ -1,11 +1,7 @@
-use Rattle.std.proofs.Common.{sym, rules}
+use Rattle.std.proofs.Common.{sym}
 use Rattle.machine.specs.Word.{shift_right}
 use Rattle.word.proofs.Laws.{right-past}
 use Rattle.word.proofs.shifted_right.Goals as goal
-
-pub returns-then-n-lt64 : goal.returns-then-n-lt64
-unfolding shift_right
-returns-then-n-lt64 c = search rules
 
 pub returns-else-n-lt64 : goal.returns-else-n-lt64
 unfolding shift_right

@@ -1,25 +1,29 @@
-use borrow.Author.Tests.{ne_eqb}
-use mathlib.Core.Path.{sym, ◌∙◌}
-use native.Mathlib.Omega.{arith}
+use Rattle.std.proofs.Common.{◌≡◌, Err, arith, rules, sym}
 use Rattle.machine.specs.Call.{step_call}
 use Rattle.xmp.specs.Reply.{step_numbers}
+use Rattle.machine.proofs.Refusals.{some-number}
 use Rattle.xmp.proofs.Allowed.{step-allowed, stepped, told}
-use borrow.Author.Rules.{rules}
 use Rattle.xmp.proofs.step.Goals as goal
-
-pub returns-then-no-ne0 : goal.returns-then-no-ne0
-unfolding step_call
-returns-then-no-ne0 c = record { call = rw (← c.of_step-no.ensures, ne_eqb _ 0 c.if-no-ne0.true); numbers = rw (← c.of_step-no.ensures, ne_eqb _ 0 c.if-no-ne0.true) }
 
 pub turn-turned-requires : goal.turn-turned-requires
 turn-turned-requires c =
-    let allowed = step-allowed _ _ (search rules) _ (omega arith) (sym c.of_step-no.ensures ∙ c.if-no-ne0.false) in
+    let allowed = step-allowed _ _ (search rules) _ (omega arith) (sym c.in_ok-of_step.ensures) in
     record { fitting = allowed.0; bounds = allowed.1 }
 
 pub returns : goal.returns
 unfolding step_call
 returns c =
-    let step = stepped _ _ _ _ _ _ _ c.turn-turned.ensures in record {
-      call = rw (← c.of_step-no.ensures, c.if-no-ne0.false, c.reply_of.ensures) step;
-      numbers = rw (← c.of_step-no.ensures, c.if-no-ne0.false, c.reply_of.ensures) (told step_numbers _ _ step).1;
+    let step = stepped _ _ _ _ _ _ _ c.turn-turned.ensures in
+    record {
+      call = rw (← c.in_ok-of_step.ensures, c.unwrap_or.ensures) step;
+      numbers = rw (← c.in_ok-of_step.ensures, c.unwrap_or.ensures) (told step_numbers _ _ step).1;
+    }
+
+pub returns-in_err-of_step : goal.returns-in_err-of_step
+unfolding step_call
+returns-in_err-of_step c =
+    let e : c.from_residual.result ≡ Err c.in_err-of_step.field-0.0 = search rules in
+    record {
+      call = rw (e, ← c.in_err-of_step.ensures, some-number c.in_err-of_step.field-0.0);
+      numbers = rw (e, ← c.in_err-of_step.ensures, some-number c.in_err-of_step.field-0.0);
     }

@@ -1,14 +1,12 @@
-use Rattle.std.proofs.Common.{◌≡◌, refl, arith, length-set, rules}
-use Rattle.machine.specs.State.{fill}
-use Rattle.access.proofs.Places.{fill-turn}
+use Rattle.std.proofs.Common.{◌≡◌, ◌+◌, ◌-◌, length, take, arith, rules}
+use lib.Seq.{take-length}
+use Rattle.access.proofs.Places.{filled-part}
 use Rattle.access.proofs.words.put_sixteen.Goals as goal
 
-pub loop-n-init : goal.loop-n-init
-unfolding fill
-loop-n-init c = (search rules, refl, refl)
-
-pub loop-n-preserved : goal.loop-n-preserved
-loop-n-preserved c = (search rules, simp length-set c.loop-n.invariant.1, fill-turn _ _ c.loop-n.n _ _ _ _ c.loop-n.invariant.2 refl refl)
-
 pub returns : goal.returns
-returns c = let e : c.loop-n.n ≡ 16 = omega arith in rw (c.loop-n.invariant.2, e)
+returns c =
+    let k = filled-part c.args.first c.args.w c.args.to.now 16 (omega arith) (omega arith) in
+    let n : c.args.first + 16 - c.args.first ≡ 16 = omega arith in
+    let l : length c.args.w ≡ 16 = search rules in
+    let whole : take 16 c.args.w ≡ c.args.w = let e : take (length c.args.w) c.args.w ≡ c.args.w = take-length c.args.w in rw l at e in
+    rw (k, n, c.copy_from_slice.ensures.after, whole)

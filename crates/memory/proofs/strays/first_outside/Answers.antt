@@ -13,7 +13,7 @@ unfolding first_outside
 loop-element-preserved c = (
   omega (arith, c.loop-element-test.true),
   rw c.wrapping_add_u64-at.ensures.value (next_address _ _ _ _ c.loop-element.invariant.1),
-  rw add-one (rw (c.or_else-stray.ensures, c.stray_at-here.ensures, c.loop-element.invariant.2, c.place_of.ensures, place-low _ _ _ _ c.loop-element.invariant.1)),
+  rw add-one (rw (c.or-stray.ensures, c.stray_at-here.ensures, c.loop-element.invariant.2, c.place_of.ensures, place-low _ _ _ _ c.loop-element.invariant.1)),
 )
 
 pub returns : goal.returns

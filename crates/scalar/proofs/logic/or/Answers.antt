@@ -7,5 +7,5 @@ pub returns : goal.returns
 unfolding code_of act
 returns c =
     λ p mem. puts or_s _ _ _ _ mem p _ c.put_s.ensures
-    (rw c.requires.1)
+    (rw c.requires)
     (rw (c.s_j.ensures, c.s_k.ensures))

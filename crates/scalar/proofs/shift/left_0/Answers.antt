@@ -8,5 +8,5 @@ pub returns : goal.returns
 unfolding code_of act
 returns c =
     λ p mem. puts left_s0 _ _ _ _ mem p _ (refl, c.set_s.ensures)
-    (rw c.requires.1)
+    (rw c.requires)
     (rw (c.shifted_left.ensures, c.s_i.ensures))

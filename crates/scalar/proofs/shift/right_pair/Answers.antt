@@ -7,7 +7,7 @@ pub returns : goal.returns
 unfolding code_of act
 returns c =
     λ p mem. puts right_pair_s _ _ _ _ mem p _ c.put_s.ensures
-    (rw c.requires.1)
+    (rw c.requires)
     (rw (
       c.right_pair-y.ensures,
       c.s_j.ensures,

@@ -11,7 +11,7 @@ unfolding code_of act
 returns-in-0 c =
     λ p mem. puts s_from_a _ _ _ _ mem p _ c.put_s.ensures
     (rw (
-      c.requires.1,
+      c.requires,
       ← c.j.ensures,
       c.in-0.is,
     )) (rw c.a_k.ensures)
@@ -21,7 +21,7 @@ unfolding code_of act
 returns-in-1 c =
     λ p mem. puts s_from_signed_a _ _ _ _ mem p _ c.put_s-in-1.ensures
     (rw (
-      c.requires.1,
+      c.requires,
       ← c.j.ensures,
       c.in-1.is,
     )) (rw (
@@ -32,5 +32,5 @@ returns-in-1 c =
 pub returns-in_default : goal.returns-in_default
 unfolding code_of
 returns-in_default c = λ p mem.
-    let h : 2 ≤ c.j.result = omega (arith, c.in_default.in_default-own.rest) in
-    not-held _ mem p _ (rw (c.requires.1, ← c.j.ensures, get_or-eq_default _ _ h))
+    let h : 2 ≤ c.j.result = omega arith in
+    not-held _ mem p _ (rw (c.requires, ← c.j.ensures, get_or-eq_default _ _ h))

@@ -7,4 +7,4 @@ pub returns : goal.returns
 unfolding code_of act
 returns c =
     λ p mem. puts s_from_t _ _ _ _ mem p _ c.put_s.ensures
-    (rw c.requires.1) (rw c.t_jk.ensures)
+    (rw c.requires) (rw c.t_jk.ensures)

@@ -8,5 +8,5 @@ pub returns : goal.returns
 unfolding code_of act
 returns c =
     λ p mem. puts t_from_s _ _ _ _ mem p _ (refl, c.set_t.ensures)
-    (rw c.requires.1)
+    (rw c.requires)
     (rw (c.jk.ensures, c.s_i.ensures))

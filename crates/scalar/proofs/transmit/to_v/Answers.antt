@@ -8,7 +8,7 @@ pub returns : goal.returns
 unfolding code_of act
 returns c =
     λ p mem. puts v_from_s _ _ _ _ mem p _ (refl, c.set_element.ensures)
-    (rw c.requires.1)
+    (rw c.requires)
     (rw (
       c.i.ensures,
       c.a_k.ensures,

@@ -7,6 +7,7 @@ use Rattle.machine.specs.Layout.{registers_of, state_of}
 use Rattle.turns.specs.Turn.{state_at}
 use Rattle.turns.proofs.Lent.{seen, lifted, kept}
 use borrow.Author.Rules.{rules}
+use Rattle.std.specs.Prelude.{Option}
 use Rattle.turns.proofs.pair.finish_at.Goals as goal
 
 pub finish-requires : goal.finish-requires
@@ -17,7 +18,7 @@ pub returns : goal.returns
 returns c =
     let long : length c.finish.new.r ≡ 672 = search rules in
     record {
-      finished = lifted _ _ _ c.requires.whole.1 c.requires.whole.0 long (λ l l'. (s : Stray) → step.out c.finish.result s (state_of l') (sharing c.finish.new.mem)
+      finished = lifted _ _ _ c.requires.side (search rules) long (λ l l'. (s : Option Stray) → step.out c.finish.result s (state_of l') (sharing c.finish.new.mem)
           ≡ step.finish (state_at c.args.p l) c.args.w s (registers_of l) (sharing c.args.mem.now)) c.finish.ensures;
-      pair_unchanged = kept c.args.at c.args.pair.now c.finish.new.r c.requires.whole.1 c.requires.whole.0 long;
+      pair_unchanged = kept c.args.at c.args.pair.now c.finish.new.r c.requires.side (search rules) long;
     }

@@ -10,6 +10,6 @@ pub returns : goal.returns
 returns c =
     let long : length c.set_p.new.r ≡ 672 = search rules in
     record {
-      pair_after = lifted _ _ _ c.requires.1 c.requires.0 long (λ l l'. state_of l' ≡ state_at c.args.p l) c.set_p.ensures;
-      pair_unchanged = kept c.args.at c.args.pair.now c.set_p.new.r c.requires.1 c.requires.0 long;
+      pair_after = lifted _ _ _ c.requires (search rules) long (λ l l'. state_of l' ≡ state_at c.args.p l) c.set_p.ensures;
+      pair_unchanged = kept c.args.at c.args.pair.now c.set_p.new.r c.requires (search rules) long;
     }

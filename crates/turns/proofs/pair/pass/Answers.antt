@@ -7,12 +7,12 @@ pub returns-then-byte-eq-FIRST : goal.returns-then-byte-eq-FIRST
 returns-then-byte-eq-FIRST c =
     record {
       at_value = (rw c.if-byte-eq-FIRST.true, refl);
-      passes = passes-first _ _ _ _ _ c.requires.1 (search rules) c.keep_p.ensures.pair_after c.keep_p.ensures.pair_unchanged _;
+      passes = passes-first _ _ _ _ _ c.requires (search rules) c.keep_p.ensures.pair_after c.keep_p.ensures.pair_unchanged _;
     }
 
 pub returns : goal.returns
 returns c =
     record {
       at_value = (second-side _ c.if-byte-eq-FIRST.false, refl);
-      passes = passes-second _ _ _ _ _ c.requires.1 (search rules) c.keep_p.ensures.pair_after c.keep_p.ensures.pair_unchanged _;
+      passes = passes-second _ _ _ _ _ c.requires (search rules) c.keep_p.ensures.pair_after c.keep_p.ensures.pair_unchanged _;
     }

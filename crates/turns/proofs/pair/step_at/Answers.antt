@@ -13,6 +13,6 @@ pub returns : goal.returns
 returns c =
     let long : length c.work.new.r ≡ 672 = search rules in
     record {
-      works = lifted _ _ _ c.requires.whole.1 c.requires.whole.0 long (λ l l'. Works c.work.result l l' c.args.mem.now c.work.new.mem c.args.p.0) c.work.ensures;
-      pair_unchanged = kept c.args.at c.args.pair.now c.work.new.r c.requires.whole.1 c.requires.whole.0 long;
+      works = lifted _ _ _ c.requires.side (search rules) long (λ l l'. Works c.work.result l l' c.args.mem.now c.work.new.mem c.args.p.0) c.work.ensures;
+      pair_unchanged = kept c.args.at c.args.pair.now c.work.new.r c.requires.side (search rules) long;
     }

@@ -1,10 +1,9 @@
-use Rattle.turns.proofs.Lent.{seen, part-long}
 use Rattle.turns.proofs.pair.stray_at.Goals as goal
 
 pub of-requires : goal.of-requires
 of-requires c =
-    record { whole = rw seen (part-long _ _ c.requires.whole.1 c.requires.whole.0); bounds = rw seen c.requires.bounds }
+    record { bounds = rw c.half.ensures c.requires.bounds }
 
 pub returns : goal.returns
 returns c =
-    rw seen at c.of.ensures
+    rw c.half.ensures at c.of.ensures

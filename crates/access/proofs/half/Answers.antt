@@ -1,0 +1,9 @@
+use Rattle.std.proofs.Common.{◌≡◌, ◌+◌, ◌-◌, arith}
+use Rattle.machine.specs.Layout.{part}
+use Rattle.access.proofs.half.Goals as goal
+
+pub returns : goal.returns
+unfolding part
+returns c =
+    let n : c.args.at + 672 - c.args.at ≡ 672 = omega arith in
+    rw n at (rw c.unwrap.ensures at c.as_array.ensures.cases).same

@@ -1,9 +1,0 @@
-use native.Mathlib.Omega.{arith}
-use borrow.Author.Tests.{ne_eqb}
-use Rattle.guess.proofs.digit.Goals as goal
-
-pub returns-then-p-eq0 : goal.returns-then-p-eq0
-returns-then-p-eq0 c = (rw c.if-p-eq0.true, omega arith)
-
-pub returns-else-p-eq0 : goal.returns-else-p-eq0
-returns-else-p-eq0 c = (rw (← c.byte.ensures, ne_eqb _ _ c.if-p-eq0.false), omega arith)

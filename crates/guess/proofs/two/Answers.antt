@@ -1,7 +1,0 @@
-use native.Mathlib.Omega.{arith}
-use Rattle.spelling.specs.Candidate.{packed}
-use Rattle.guess.proofs.two.Goals as goal
-
-pub returns : goal.returns
-unfolding packed
-returns c = omega arith

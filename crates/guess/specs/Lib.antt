@@ -1,0 +1,2 @@
+pub mod Meant
+pub mod Numbers
