@@ -284,5 +284,7 @@ filled-part at w l zero h k = sym (take-append-drop at l)
 filled-part at w l (suc n) h k =
     let e : at + n - at ≡ n = omega arith in
     let rest = length-drop at l in
-    rw (filled-part at w l n (omega arith) (omega arith)) (set-append_right (take at l) (take n w ++ drop n (drop at l)) at (at + n) (get_or w n 0)
-    (length-take-le at l (omega arith)) (omega arith) ∙ ap (λ (x : List ℕ). take at l ++ x) (rw e (rw add-one at (copied w (drop at l) (take n w ++ drop n (drop at l)) n (omega arith) (omega (arith, rest)) refl))))
+    let part = take n w ++ drop n (drop at l) in
+    let more = rw add-one at (copied w (drop at l) part n (omega arith) (omega (arith, rest)) refl) in
+    rw (filled-part at w l n (omega arith) (omega arith)) (set-append_right (take at l) part at (at + n) (get_or w n 0)
+    (length-take-le at l (omega arith)) (omega arith) ∙ ap (λ (x : List ℕ). take at l ++ x) (rw e more))

@@ -11,7 +11,7 @@ use Rattle.machine.specs.declared.Cause.TheVariants.{BelowBase, OverLimit, Beyon
 use Rattle.machine.specs.Word.{pick}
 use Rattle.machine.specs.Parcel.{word_of, parcel_of, onward}
 use Rattle.machine.specs.State.{Frame, addr}
-use Rattle.machine.specs.Memory.{Field, data_field, code_field, place_of, parcel_at, fetch_of}
+use Rattle.machine.specs.Memory.{Field, code_field, place_of, parcel_at, fetch_of}
 use Rattle.access.specs.Window.{extent, Reaches, Inside, spot_of, fetch_in, place_in}
 
 -- the lesser of a limit and a length
@@ -74,18 +74,6 @@ module _ (fr : Frame) (f : Reach) (len : ℕ) (h : Reaches fr f len) where
   pub code_inside : Inside f.code.first f.code.words len
   code_inside w l = omega (arith, (least (fr.ila * 32) len).1, h.code, h.span)
 
-  pub operands-inside : Inside f.operands.first f.operands.words len
-  operands-inside w l = omega (arith, (least (fr.dla * 32) len).1, h.operands, h.words)
-
-  pub operands-low : f.operands.first ≤ 2 ^ 22
-  operands-low = omega (arith, h.operands, h.dba)
-
-  -- an operand's place; only the low 22 bits of its address count
-  pub operand-place : (address n : ℕ) → n % 2 ^ 22 ≡ address % 2 ^ 22 → place_in f.operands.first f.operands.words n ≡ spot_of (place_of (data_field fr) len address)
-  unfolding place_in
-  operand-place address n e =
-      rw e (window (data_field fr) len address h.dba h.size f.operands.first f.operands.words h.operands h.words)
-
 -- a parcel is fetched as the definitions fetch it
 pub fetched : (fr : Frame) (f : Reach) (mem : List ℕ) (p : ℕ) → Reaches fr f (length mem) → p < 2 ^ 24 → fetch_in f mem p ≡ fetch_of fr mem p
 unfolding fetch_of fetch_in place_in
@@ -98,8 +86,8 @@ fetched fr f mem p h l =
     go : (t : Bool) (o : Result ℕ Cause) → pick t (Some (f.code.first + word_of p)) None ≡ spot_of o
         → pick t (Some (parcel_of (get_or mem (f.code.first + word_of p) 0) p)) None ≡ parcel_at mem p o
     go true (Ok n) e = let z : f.code.first + word_of p ≡ n = cc in rw z
-    go true (Err cause) e = let z : ◌≡◌ {A = ℕ} 0 1 = cc in absurd (omega arith)
-    go false (Ok n) e = let z : ◌≡◌ {A = ℕ} 0 1 = cc in absurd (omega arith)
+    go true (Err cause) e = cc
+    go false (Ok n) e = cc
     go false (Err cause) e = refl
 
 -- a parcel that is fetched has 16 bits
@@ -109,7 +97,7 @@ parcel-narrow f mem p m e = go (ltb (word_of p) f.code.words) e
   where
     go : (t : Bool) → pick t (Some (parcel_of (get_or mem (f.code.first + word_of p) 0) p)) None ≡ Some m → m < 2 ^ 16
     go true e = let z : parcel_of (get_or mem (f.code.first + word_of p) 0) p ≡ m = cc in omega arith
-    go false e = let z : ◌≡◌ {A = ℕ} 0 1 = cc in omega arith
+    go false e = cc
 
 -- a parcel of a word by two shifts
 shifted : (word p : ℕ) → word * 2 ^ (16 * (p % 4)) % 2 ^ 64 / 2 ^ 48 ≡ parcel_of word p

@@ -1,5 +1,6 @@
 -- The two fields of a processor as windows of memory: made once, and good until an exchange. Assumes nothing.
-use Rattle.std.specs.Prelude.{◌≡◌, ℕ, ◌+◌, ◌-◌, ◌*◌, ◌%◌, ◌^◌, ◌<◌, ◌≤◌, Bool, true, false, List, nat_le, nat_lt, slice_index, slice_set, Option, Some, None, Result, Ok, Err}
+use Rattle.std.specs.Prelude.{◌≡◌, ℕ, ◌+◌, ◌-◌, ◌*◌, ◌%◌, ◌^◌, ◌<◌, ◌≤◌, Bool, true, false, List, nat_le, nat_lt}
+use Rattle.std.specs.Prelude.{slice_index, slice_set, Option, Some, None, Result, Ok, Err}
 use Rattle.machine.specs.declared.Cause.{Cause}
 use Rattle.machine.specs.declared.Reach.{Reach}
 use Rattle.machine.specs.Word.{pick}

@@ -503,7 +503,9 @@ pub struct Plans {
 }
 
 impl Plans {
-    pub fn new() -> Plans {
+    pub fn new() -> Plans
+        ensures { numbers_of result.plans ≡ plan_table }
+    {
         Plans { plans: PLANS }
     }
 

@@ -9,10 +9,9 @@ use native.Mathlib.Nat.{le_of_suc-le-suc}
 use Rattle.std.proofs.lemmas.List.{get_or-append-add}
 use lib.Dec.{eqb, ltb, leb}
 use borrow.Author.Tests.{eq-eqb, eqb-true, eqb-false, ne_eqb, lt-ltb, le-ltb, ltb-true, ltb-false, le-leb}
-use Rattle.machine.specs.Word.{pick}
 use Rattle.machine.specs.Codes.{code_of, code001, code002}
 use Rattle.spelling.specs.Spelling.{passing, spelling, words_of, second}
-use Rattle.spelling.specs.Rows.{row_words, plain_rows, row_by, row_of, second_row, operands_in, code_at, operand_table}
+use Rattle.spelling.specs.Rows.{row_words, plain_rows, row_of, second_row, operands_in, code_at, operand_table}
 use Rattle.line.specs.Joined.{codes_in, codes_of}
 use Rattle.line.specs.declared.Codes.{Codes}
 use Rattle.spelling.proofs.Table.{second-of-row}
@@ -38,60 +37,6 @@ none_of f n (suc k) r h = go (f k) refl r (none_of f n k)
         last : (b : Bool) → eqb n k ≡ b → f n ≡ false
         last true t = ap f (eqb-true n k t) ∙ e
         last false t = let other = eqb-false n k t in more r (omega (arith, other))
-
-pub none_below : (n k : ℕ) → NoneOf (λ k. true) n k → k ≤ n
-none_below n k r = go (ltb n k) refl
-  where
-    go : (b : Bool) → ltb n k ≡ b → k ≤ n
-    go true e =
-        let none = none_of (λ k. true) n k r (ltb-true n k e) in
-        let z : ◌≡◌ {A = ℕ} 0 1 = cc in
-        absurd (omega arith)
-    go false e = ltb-false n k e
-
--- the rows of the codes 010 to 017, and of those past them that row_by has no test for
-module _ (c i j k : ℕ) where
-  pub row_low : 8 ≤ c → c < 16 → row_by c i j k ≡ pick (ltb i 4) (19 + c) 35
-  unfolding row_by
-  row_low h l =
-      simp (
-        ne_eqb c 0 (λ e. omega arith),
-        ne_eqb c 1 (λ e. omega arith),
-        ne_eqb c 2 (λ e. omega arith),
-        ne_eqb c 3 (λ e. omega arith),
-        ne_eqb c 4 (λ e. omega arith),
-        ne_eqb c 5 (λ e. omega arith),
-        ne_eqb c 6 (λ e. omega arith),
-        ne_eqb c 7 (λ e. omega arith),
-        lt-ltb c 16 l,
-      )
-
-  pub row_plain : 16 ≤ c
-      → (c ≡ 0o023 → ⊥) → (c ≡ 0o026 → ⊥) → (c ≡ 0o027 → ⊥) → (c ≡ 0o071 → ⊥) → (c ≡ 0o073 → ⊥)
-      → (c ≡ 0o174 → ⊥) → (c ≡ 0o175 → ⊥) → (c ≡ 0o176 → ⊥) → (c ≡ 0o177 → ⊥)
-      → row_by c i j k ≡ get_or plain_rows c 0
-  unfolding row_by
-  row_plain h n023 n026 n027 n071 n073 n174 n175 n176 n177 =
-      simp (
-        ne_eqb c 0 (λ e. omega arith),
-        ne_eqb c 1 (λ e. omega arith),
-        ne_eqb c 2 (λ e. omega arith),
-        ne_eqb c 3 (λ e. omega arith),
-        ne_eqb c 4 (λ e. omega arith),
-        ne_eqb c 5 (λ e. omega arith),
-        ne_eqb c 6 (λ e. omega arith),
-        ne_eqb c 7 (λ e. omega arith),
-        le-ltb c 16 h,
-        ne_eqb _ _ n023,
-        ne_eqb _ _ n026,
-        ne_eqb _ _ n027,
-        ne_eqb _ _ n071,
-        ne_eqb _ _ n073,
-        ne_eqb _ _ n174,
-        ne_eqb _ _ n175,
-        ne_eqb _ _ n176,
-        ne_eqb _ _ n177,
-      )
 
 -- a row tells whether there is a second parcel
 pub second-by : {x row : ℕ} → row ≡ row_of x → x < 65536 → second x ≡ second_row row

@@ -603,7 +603,10 @@ pub struct Tables {
 }
 
 impl Tables {
-    pub fn new() -> Tables {
+    pub fn new() -> Tables
+        ensures forms { joined result.forms ≡ form_table }
+        ensures operands { codes_of result.operands ≡ operand_table }
+    {
         Tables {
             forms: FORMS,
             operands: OPERANDS,

@@ -1,17 +1,8 @@
 -- The numbers of refusals: none is 0, which is that of no refusal, and each is of one alone. Assumes nothing.
-use Rattle.std.proofs.Common.{◌≡◌, refl, ℕ, zero, suc, false, eqb, Option, Some, None, ap, sym, ◌∙◌}
+use Rattle.std.proofs.Common.{◌≡◌, refl, ℕ, zero, suc, false, eqb, Option, Some, None, ap, sym, ◌∙◌, ne_eqb}
 use Rattle.machine.specs.declared.Refusal.{Refusal}
 use Rattle.machine.specs.declared.Refusal.TheVariants.{MemorySize, PackageNumber, Budget, ProcessorNumber, ScheduleLength, ScheduleByte, RegisterWidth}
 use Rattle.machine.specs.Call.{refusal_number}
-
-pub some-number : (why : Refusal) → eqb (refusal_number why) 0 ≡ false
-some-number MemorySize = refl
-some-number PackageNumber = refl
-some-number Budget = refl
-some-number ProcessorNumber = refl
-some-number ScheduleLength = refl
-some-number ScheduleByte = refl
-some-number RegisterWidth = refl
 
 -- the refusal that a number tells
 abbrev refusal_of : ℕ → Option Refusal
@@ -37,3 +28,6 @@ pub refusal-once : (a b : Refusal) → refusal_number a ≡ refusal_number b →
 refusal-once a b e =
     let s : Some a ≡ Some b = sym (told-back a) ∙ ap refusal_of e ∙ told-back b in
     cc
+
+pub some-number : (why : Refusal) → eqb (refusal_number why) 0 ≡ false
+some-number why = ne_eqb (refusal_number why) 0 (λ z. let s : Some why ≡ None = sym (told-back why) ∙ ap refusal_of z in cc)

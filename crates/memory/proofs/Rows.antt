@@ -1,5 +1,6 @@
 -- Rows of words by windows: places, one turn of each loop, and the words that go straight. Assumes nothing.
-use Rattle.std.proofs.Common.{◌≡◌, ℕ, zero, suc, ◌+◌, ◌-◌, ◌*◌, ◌%◌, ◌^◌, ◌<◌, ◌≤◌, Bool, true, false, ◌&&◌, ◌||◌, eqb, leb, List, None, Option, Some, is_some, not, is_none}
+use Rattle.std.proofs.Common.{◌≡◌, ℕ, zero, suc, ◌+◌, ◌-◌, ◌*◌, ◌%◌, ◌^◌, ◌<◌, ◌≤◌, Bool, true, false, ◌&&◌, ◌||◌}
+use Rattle.std.proofs.Common.{eqb, leb, List, None, Option, Some, is_some, not, is_none}
 use Rattle.std.proofs.Common.{get_or, sym, refl, ◌∙◌, add-one, arith, le-ltb, lt-ltb, eqb-true, leb-true}
 use Rattle.machine.specs.Word.{pick}
 use Rattle.machine.specs.State.{fill}

@@ -3,7 +3,7 @@
 -- is that it finds every line that is listed. Assumes nothing.
 use Rattle.std.specs.Prelude.{ℕ, zero, suc, ◌+◌, ◌-◌, ◌*◌, ◌/◌, ◌%◌, ◌^◌, Bool, true, false, ◌&&◌, ◌||◌, List, [], ◌∷◌, get_or, eqb, ltb, leb}
 use Prim.Native.String.{String}
-use Rattle.machine.specs.Word.{pick, bit}
+use Rattle.machine.specs.Word.{pick}
 use Rattle.spelling.specs.Words.{signs}
 use Rattle.spelling.specs.Rows.{samples, row_words, table}
 
@@ -274,7 +274,3 @@ guess_by b = guess_with b (plan_of (row_seen b))
 
 unfoldable pub guess_of : List ℕ → Guess
 guess_of s = guess_by (bytes_of s)
-
--- a guess as one number, as the program passes it on
-unfoldable pub packed : Guess → ℕ
-packed g = g.first + g.second * 65536 + bit g.two * 2 ^ 32 + g.length * 2 ^ 33

@@ -103,17 +103,20 @@ unfolding glyph_of digits places_of width_of shown after_commas commas stop_line
 reported = refl
 
 -- outside=below,0
-outside_below : outside_line (Some (record { cause = BelowBase; element = 0 })) ≡ 111 ∷ 117 ∷ 116 ∷ 115 ∷ 105 ∷ 100 ∷ 101 ∷ 61 ∷ 98 ∷ 101 ∷ 108 ∷ 111 ∷ 119 ∷ 44 ∷ 48 ∷ 10 ∷ []
+outside_below : outside_line (Some (record { cause = BelowBase; element = 0 }))
+    ≡ 111 ∷ 117 ∷ 116 ∷ 115 ∷ 105 ∷ 100 ∷ 101 ∷ 61 ∷ 98 ∷ 101 ∷ 108 ∷ 111 ∷ 119 ∷ 44 ∷ 48 ∷ 10 ∷ []
 unfolding glyph_of digits places_of width_of shown cause_name outside_line
 outside_below = refl
 
 -- outside=limit,63
-outside-limit : outside_line (Some (record { cause = OverLimit; element = 63 })) ≡ 111 ∷ 117 ∷ 116 ∷ 115 ∷ 105 ∷ 100 ∷ 101 ∷ 61 ∷ 108 ∷ 105 ∷ 109 ∷ 105 ∷ 116 ∷ 44 ∷ 54 ∷ 51 ∷ 10 ∷ []
+outside-limit : outside_line (Some (record { cause = OverLimit; element = 63 }))
+    ≡ 111 ∷ 117 ∷ 116 ∷ 115 ∷ 105 ∷ 100 ∷ 101 ∷ 61 ∷ 108 ∷ 105 ∷ 109 ∷ 105 ∷ 116 ∷ 44 ∷ 54 ∷ 51 ∷ 10 ∷ []
 unfolding glyph_of digits places_of width_of shown cause_name outside_line
 outside-limit = refl
 
 -- outside=memory,10
-outside-memory : outside_line (Some (record { cause = BeyondMemory; element = 10 })) ≡ 111 ∷ 117 ∷ 116 ∷ 115 ∷ 105 ∷ 100 ∷ 101 ∷ 61 ∷ 109 ∷ 101 ∷ 109 ∷ 111 ∷ 114 ∷ 121 ∷ 44 ∷ 49 ∷ 48 ∷ 10 ∷ []
+outside-memory : outside_line (Some (record { cause = BeyondMemory; element = 10 }))
+    ≡ 111 ∷ 117 ∷ 116 ∷ 115 ∷ 105 ∷ 100 ∷ 101 ∷ 61 ∷ 109 ∷ 101 ∷ 109 ∷ 111 ∷ 114 ∷ 121 ∷ 44 ∷ 49 ∷ 48 ∷ 10 ∷ []
 unfolding glyph_of digits places_of width_of shown cause_name outside_line
 outside-memory = refl
 

@@ -30,9 +30,6 @@ use Rattle.dispatch.specs.Table.{Ready, Works}
 use Rattle.laws.proofs.Laws.{Narrow, Idle, work-p, work-ok, work-length, work-idle}
 use Rattle.turns.specs.Turn.{state_at, moved_to, steps_of, steps_after, last_from, last_after, end_of, Bursts, Fitting}
 
-distinct : {A : Type 0} → ◌≡◌ {A = ℕ} 0 1 → A
-distinct e = absurd (omega arith)
-
 -- work that only steps: the step's answer, and where P goes; it has no stray
 finish-moved : (st : State) (w : Work) (s : Option Stray) (r : Registers) (sh : Shared) (q : ParcelAddr) → moved_to st.p.0 w ≡ Some q
     → finish st w s r sh ≡ out Stepped s (record { p = q; registers = r; frame = st.frame }) sh
@@ -40,13 +37,13 @@ unfolding finish
 finish-moved st work.PastOne s r sh q e = let z : addr (onward st.p.0 1) ≡ q = cc in rw z
 finish-moved st work.PastTwo s r sh q e = let z : addr (onward st.p.0 2) ≡ q = cc in rw z
 finish-moved st (work.To p) s r sh q e = let z : p ≡ q = cc in rw z
-finish-moved st work.NormalExit s r sh q e = distinct (cc)
-finish-moved st work.ErrorExit s r sh q e = distinct (cc)
-finish-moved st work.StrayedOne s r sh q e = distinct (cc)
-finish-moved st work.StrayedTwo s r sh q e = distinct (cc)
-finish-moved st work.ProgramRange s r sh q e = distinct (cc)
-finish-moved st work.NotHeld s r sh q e = distinct (cc)
-finish-moved st work.MonitorFetch s r sh q e = distinct (cc)
+finish-moved st work.NormalExit s r sh q e = cc
+finish-moved st work.ErrorExit s r sh q e = cc
+finish-moved st work.StrayedOne s r sh q e = cc
+finish-moved st work.StrayedTwo s r sh q e = cc
+finish-moved st work.ProgramRange s r sh q e = cc
+finish-moved st work.NotHeld s r sh q e = cc
+finish-moved st work.MonitorFetch s r sh q e = cc
 
 told_moved : (p : ℕ) (w : Work) (r : List ℕ) (len : ℕ) (q : ParcelAddr) → moved_to p w ≡ Some q → told w r len ≡ None
 told_moved p work.PastOne r len q e = refl
@@ -54,8 +51,8 @@ told_moved p work.PastTwo r len q e = refl
 told_moved p (work.To q') r len q e = refl
 told_moved p work.NormalExit r len q e = refl
 told_moved p work.ErrorExit r len q e = refl
-told_moved p work.StrayedOne r len q e = distinct (cc)
-told_moved p work.StrayedTwo r len q e = distinct (cc)
+told_moved p work.StrayedOne r len q e = cc
+told_moved p work.StrayedTwo r len q e = cc
 told_moved p work.ProgramRange r len q e = refl
 told_moved p work.NotHeld r len q e = refl
 told_moved p work.MonitorFetch r len q e = refl
@@ -64,9 +61,9 @@ told_moved p work.MonitorFetch r len q e = refl
 finish-same : (fr : Frame) (p : ParcelAddr) (r r' : Registers) (w : Work) (s : Option Stray) (sh : Shared) → moved_to p.0 w ≡ None → (Idle w → r ≡ r')
     → finish (record { p = p; registers = r; frame = fr }) w s r' sh ≡ finish (record { p = p; registers = r'; frame = fr }) w s r' sh
 unfolding finish
-finish-same fr p r r' work.PastOne s sh e h = distinct (cc)
-finish-same fr p r r' work.PastTwo s sh e h = distinct (cc)
-finish-same fr p r r' (work.To q) s sh e h = distinct (cc)
+finish-same fr p r r' work.PastOne s sh e h = cc
+finish-same fr p r r' work.PastTwo s sh e h = cc
+finish-same fr p r r' (work.To q) s sh e h = cc
 finish-same fr p r r' work.NormalExit s sh e h = refl
 finish-same fr p r r' work.ErrorExit s sh e h = refl
 finish-same fr p r r' work.StrayedOne s sh e h = refl
@@ -118,13 +115,13 @@ pub narrow_at : (w : Work) (p q : ParcelAddr) → moved_to p.0 w ≡ Some q → 
 narrow_at work.PastOne p q e h = let z : addr (onward p.0 1) ≡ q = cc in rw (← z) (omega arith)
 narrow_at work.PastTwo p q e h = let z : addr (onward p.0 2) ≡ q = cc in rw (← z) (omega arith)
 narrow_at (work.To p') p q e h = let z : p' ≡ q = cc in rw (← z) h
-narrow_at work.NormalExit p q e h = distinct (cc)
-narrow_at work.ErrorExit p q e h = distinct (cc)
-narrow_at work.StrayedOne p q e h = distinct (cc)
-narrow_at work.StrayedTwo p q e h = distinct (cc)
-narrow_at work.ProgramRange p q e h = distinct (cc)
-narrow_at work.NotHeld p q e h = distinct (cc)
-narrow_at work.MonitorFetch p q e h = distinct (cc)
+narrow_at work.NormalExit p q e h = cc
+narrow_at work.ErrorExit p q e h = cc
+narrow_at work.StrayedOne p q e h = cc
+narrow_at work.StrayedTwo p q e h = cc
+narrow_at work.ProgramRange p q e h = cc
+narrow_at work.NotHeld p q e h = cc
+narrow_at work.MonitorFetch p q e h = cc
 
 -- words that are ready fit
 pub fits : (r : List ℕ) (f : Reach) (len : ℕ) → Ready r f len → 4096 ≤ len → Fitting r len

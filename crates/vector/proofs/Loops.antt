@@ -13,7 +13,7 @@ use Rattle.access.specs.Executed.{Puts}
 use Rattle.access.proofs.Places.{ahead, fill-turn, to-elements}
 use Rattle.vector.specs.declared.Left.TheVariants.{Word, Elements}
 use Rattle.vector.specs.declared.Operands.{Operands}
-use Rattle.vector.specs.Element.{Inside, left_at, AreOperands}
+use Rattle.vector.specs.Element.{left_at, AreOperands}
 
 -- element e of Vj and of Vk, where x names j and k
 abbrev pub vj : List ℕ → ℕ → ℕ → ℕ
@@ -59,13 +59,6 @@ module _ {x n : ℕ} {f : ℕ → ℕ} {r₀ r : List ℕ} {e : ℕ} (d : Doing 
 
 -- the left operand that x names
 module _ {scalar : Bool} {x : ℕ} {r₀ : List ℕ} {o : Operands} (h : AreOperands o r₀ scalar x) where
-  pub left-inside : (e : ℕ) → e < 64 → Inside o.left e
-  left-inside e l = rw h.left (go scalar)
-    where
-      go : (t : Bool) → Inside (pick t (Word (sj (registers_of r₀) (j_of x))) (Elements (160 + j_of x * 64))) e
-      go true = tt
-      go false = omega arith
-
   -- from element e on it reads as it stood
   pub left-reads : {n : ℕ} {f : ℕ → ℕ} {r : List ℕ} {e : ℕ} → Doing x n f r₀ r e → (m : ℕ) → (e ≤ m) × (m < 64) → left_at r o.left m ≡ left scalar r₀ x m
   left-reads {r} d m l = rw h.left (go scalar)

@@ -17,7 +17,14 @@ returns-then-not-first-second c =
 pub returns-then-schedule-gt65536 : goal.returns-then-schedule-gt65536
 unfolding pair_refusal first_due frame_of
 returns-then-schedule-gt65536 c =
-    rw (← c.half-first.ensures, ← c.half-second.ensures, ← c.memory_fits.ensures, c.if-not-memory_fits.false-raw, c.if-not-first-second.false-raw, lt-ltb _ _ c.if-schedule-gt65536.true)
+    rw (
+      ← c.half-first.ensures,
+      ← c.half-second.ensures,
+      ← c.memory_fits.ensures,
+      c.if-not-memory_fits.false-raw,
+      c.if-not-first-second.false-raw,
+      lt-ltb _ _ c.if-schedule-gt65536.true,
+    )
 
 pub returns-then-joined_bytes-gt1 : goal.returns-then-joined_bytes-gt1
 unfolding pair_refusal first_due frame_of

@@ -8,7 +8,8 @@ use Rattle.memory.proofs.operands.read.Given as goal
 abbrev pub invariant-loop-e : goal.invariant-loop-e
 invariant-loop-e l =
     let word : ℕ → ℕ = λ i. cut_to l.narrow (load_in l.mem (row_in l.window.first l.window.words l.from l.row.by i)) in
-    (l.e ≤ l.row.n) × (length l.r ≡ 672) × (l.at % 2 ^ 22 ≡ (l.from + l.e * l.row.by) % 2 ^ 22) × (l.outside ≡ any_beyond (row_in l.window.first l.window.words l.from l.row.by) l.e)
+    (l.e ≤ l.row.n) × (length l.r ≡ 672) × (l.at % 2 ^ 22 ≡ (l.from + l.e * l.row.by) % 2 ^ 22)
+    × (l.outside ≡ any_beyond (row_in l.window.first l.window.words l.from l.row.by) l.e)
     × ((q : List ℕ) → l.initial.r ≡ ring_at l.row.file l.row.reg word l.whole q → l.r ≡ ring_at l.row.file l.row.reg word l.e q)
 
 abbrev pub decreases-loop-e : goal.decreases-loop-e
