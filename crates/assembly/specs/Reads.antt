@@ -58,7 +58,7 @@ HeardRight s None = read_line s ≡ line_bad
 -- a whole text: so many parcels, or its first bad line
 abbrev pub Checks : List ℕ → Result ℕ ReadError → Type 0
 Checks text (Ok n) = (ps : List ℕ) × (read_of text ≡ all_read ps) × (length ps ≡ n)
-Checks text (Err (BadLine line)) = (n : ℕ) × (read_of text ≡ wrong n) × (line ≡ n + 1)
+Checks text (Err (BadLine line)) = (n : ℕ) × (read_of text ≡ wrong n) × (line ≡ n + 1) × (n < length text)
 Checks text (Err Overfull) = ⊥
 
 -- the parcels of a reading fit into so many

@@ -2,10 +2,11 @@
 // place. No caller is relied on: each call does its work, or says why it refuses, with all as it was.
 #![tactic(auto)]
 
-ghost use Rattle.std.specs.Prelude.{◌≡◌};
+ghost use Rattle.std.specs.Prelude.{◌≡◌, None, Ok, Err};
 ghost use Rattle.machine.specs.State.{sharing};
-ghost use Rattle.machine.specs.Call.{started, start_call, step_call, turn_call, run_call, pair_call};
-ghost use Rattle.machine.specs.Call.{number_of};
+ghost use Rattle.machine.specs.Run.{turned, ended, half, half_with, pair_ended};
+ghost use Rattle.machine.specs.Call.{started, start_call, replied, step_call, turn_call, run_call, pair_call};
+ghost use Rattle.machine.specs.Call.{number_of, tells};
 ghost use Rattle.machine.specs.Layout.{state_of, first_of, second_of};
 ghost use Rattle.xmp.specs.Reply.{told_reply, told_turned, told_ended, told_paired};
 ghost use Rattle.xmp.specs.Reply.{step_numbers, turn_numbers, run_numbers, pair_numbers};
@@ -35,7 +36,9 @@ pub struct Replied {
 
 // One step.
 pub fn step(r: &mut Words, mem: &mut [u64]) -> Result<Replied, Refusal>
-    ensures call { told_reply result (state_of r.new) (sharing mem.new) ≡ step_call (state_of r.old) (sharing mem.old) }
+    ensures call { tells result (λ o. replied (Ok o.answer) o.stray (state_of r.new) (sharing mem.new))
+        (λ no. replied (Err no) None (state_of r.new) (sharing mem.new))
+        ≡ step_call (state_of r.old) (sharing mem.old) }
     ensures numbers { step_numbers (told_reply result (state_of r.new) (sharing mem.new))
         ≡ step_numbers (step_call (state_of r.old) (sharing mem.old)) }
 {
@@ -50,7 +53,9 @@ pub fn step(r: &mut Words, mem: &mut [u64]) -> Result<Replied, Refusal>
 
 // Steps up to and including the first that exchanges or stops, at most `budget`.
 pub fn turn(r: &mut Words, mem: &mut [u64], budget: u64) -> Result<Turned, Refusal>
-    ensures call { told_turned result (state_of r.new) (sharing mem.new) ≡ turn_call (state_of r.old) (sharing mem.old) budget }
+    ensures call { tells result (λ t. turned (Ok t.last) t.stray t.steps (state_of r.new) (sharing mem.new))
+        (λ no. turned (Err no) None 0 (state_of r.new) (sharing mem.new))
+        ≡ turn_call (state_of r.old) (sharing mem.old) budget }
     ensures numbers { turn_numbers (told_turned result (state_of r.new) (sharing mem.new))
         ≡ turn_numbers (turn_call (state_of r.old) (sharing mem.old) budget) }
 {
@@ -60,7 +65,9 @@ pub fn turn(r: &mut Words, mem: &mut [u64], budget: u64) -> Result<Turned, Refus
 
 // At most `budget` steps, sooner where one stops.
 pub fn run(r: &mut Words, mem: &mut [u64], budget: u64) -> Result<Ran, Refusal>
-    ensures call { told_ended result (state_of r.new) (sharing mem.new) ≡ run_call (state_of r.old) (sharing mem.old) budget }
+    ensures call { tells result (λ e. ended (Ok e.ending) e.stray e.steps (state_of r.new) (sharing mem.new))
+        (λ no. ended (Err no) None 0 (state_of r.new) (sharing mem.new))
+        ≡ run_call (state_of r.old) (sharing mem.old) budget }
     ensures numbers { run_numbers (told_ended result (state_of r.new) (sharing mem.new))
         ≡ run_numbers (run_call (state_of r.old) (sharing mem.old) budget) }
 {
@@ -71,7 +78,10 @@ pub fn run(r: &mut Words, mem: &mut [u64], budget: u64) -> Result<Ran, Refusal>
 // Two processors, one after the other in 1,344 words, over one memory: a step for each byte of a schedule of 0s and 1s, up to and
 // including the first that exchanges or stops.
 pub fn pair_run(pair: &mut [u64; 1344], mem: &mut [u64], schedule: &[u8]) -> Result<Paired, Refusal>
-    ensures call { told_paired result (first_of pair.new) (second_of pair.new) (sharing mem.new)
+    ensures call { tells result
+        (λ e. pair_ended (Ok e.last) e.steps (half_with (first_of pair.new) e.strays.first) (half_with (second_of pair.new) e.strays.second)
+        (sharing mem.new))
+        (λ no. pair_ended (Err no) 0 (half (first_of pair.new)) (half (second_of pair.new)) (sharing mem.new))
         ≡ pair_call (first_of pair.old) (second_of pair.old) (sharing mem.old) schedule.now }
     ensures numbers { pair_numbers (told_paired result (first_of pair.new) (second_of pair.new) (sharing mem.new))
         ≡ pair_numbers (pair_call (first_of pair.old) (second_of pair.old) (sharing mem.old) schedule.now) }

@@ -17,7 +17,13 @@ pub returns-in_default : goal.returns-in_default
 returns-in_default c =
     let rest = c.loop-rest.rest.now in
     let bad = subst (λ (r : Option Line). ReadsAs rest (read_line rest) r) c.in_default.is c.read_line.ensures in
-    (c.loop-rest.lines, passed-bad c.args.text.now rest c.loop-rest.lines c.loop-rest.invariant.0 c.loop-rest.invariant.1 (omega arith) bad, refl)
+    let passed : Passed c.args.text.now rest c.loop-rest.lines c.loop-rest.invariant.0 = c.loop-rest.invariant.1 in
+    let lines = passed.lines in (
+      c.loop-rest.lines,
+      passed-bad c.args.text.now rest c.loop-rest.lines c.loop-rest.invariant.0 passed (omega arith) bad,
+      refl,
+      omega (arith, lines),
+    )
 
 pub loop-rest-preserved : goal.loop-rest-preserved
 loop-rest-preserved c =
