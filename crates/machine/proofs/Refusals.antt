@@ -47,21 +47,22 @@ number-once (Ok u) (Err why) e = absurd (none-of why e)
 number-once (Err why) (Ok u) e = absurd (none-of why (sym e))
 number-once (Err a) (Err b) e = ap (λ (why : Refusal). Err why) (refusal-once a b e)
 
--- and what any call answers by what is told of it, where that tells what was done apart
-module _ {A B : Type 0} {f f' : A → B} {g g' : ℕ → B} (one : (a b : A) → f a ≡ f' b → a ≡ b) (number : (m n : ℕ) → g m ≡ g' n → m ≡ n)
-    (apart : (a : A) (n : ℕ) → f a ≡ g' n → ⊥) (apart' : (a : A) (n : ℕ) → g n ≡ f' a → ⊥) where
-  pub tells-once : (o o' : Result A Refusal) → tells o f g ≡ tells o' f' g' → o ≡ o'
-  tells-once (Ok a) (Ok b) e = ap (λ (x : A). Ok x) (one a b e)
-  tells-once (Ok a) (Err why) e = absurd (apart a (refusal_number why) e)
-  tells-once (Err why) (Ok b) e = absurd (apart' b (refusal_number why) e)
-  tells-once (Err a) (Err b) e = ap (λ (why : Refusal). Err why) (refusal-once a b (number _ _ e))
+-- and what any call answers by what is told of it: f where it was done, g where it was refused, both with what is kept beside the answer
+module _ {A X K R : Type 0} (answer : R → Result X ℕ) (kept : R → K) (f : K → A → R) (g : K → ℕ → R) (said : A → X)
+    (f-answers : (k : K) (a : A) → answer (f k a) ≡ Ok (said a)) (g-answers : (k : K) (n : ℕ) → answer (g k n) ≡ Err n)
+    (f-keeps : (k : K) (a : A) → kept (f k a) ≡ k) (g-keeps : (k : K) (n : ℕ) → kept (g k n) ≡ k)
+    (f-once : (k k' : K) (a b : A) → f k a ≡ f k' b → a ≡ b) where
+  apart : (k k' : K) (a : A) (n : ℕ) → f k a ≡ g k' n → ⊥
+  apart k k' a n e = let z : Ok (said a) ≡ Err n = sym (f-answers k a) ∙ ap answer e ∙ g-answers k' n in cc
 
--- a part of what is told that is the same either way
-tells-part : {A B C : Type 0} (part : B → C) {c : C} {f : A → B} {g : ℕ → B} → ((a : A) → part (f a) ≡ c) → ((n : ℕ) → part (g n) ≡ c)
-    → (o : Result A Refusal) → part (tells o f g) ≡ c
-tells-part part h k (Ok a) = h a
-tells-part part h k (Err why) = k (refusal_number why)
+  g-once : (k k' : K) (m n : ℕ) → g k m ≡ g k' n → m ≡ n
+  g-once k k' m n e = let z : ◌≡◌ {A = Result X ℕ} (Err m) (Err n) = sym (g-answers k m) ∙ ap answer e ∙ g-answers k' n in cc
 
-pub tells-kept : {A B C : Type 0} (part : B → C) {c c' : C} {f f' : A → B} {g g' : ℕ → B} → ((a : A) → part (f a) ≡ c) → ((n : ℕ) → part (g n) ≡ c)
-    → ((a : A) → part (f' a) ≡ c') → ((n : ℕ) → part (g' n) ≡ c') → (o o' : Result A Refusal) → tells o f g ≡ tells o' f' g' → c ≡ c'
-tells-kept part h k h' k' o o' e = sym (tells-part part h k o) ∙ ap part e ∙ tells-part part h' k' o'
+  pub tells-once : (k k' : K) (o o' : Result A Refusal) → tells o (f k) (g k) ≡ tells o' (f k') (g k') → (o ≡ o') × (k ≡ k')
+  tells-once k k' (Ok a) (Ok b) e = (ap (λ (x : A). Ok x) (f-once k k' a b e), sym (f-keeps k a) ∙ ap kept e ∙ f-keeps k' b)
+  tells-once k k' (Ok a) (Err w) e = absurd (apart k k' a (refusal_number w) e)
+  tells-once k k' (Err w) (Ok b) e = absurd (apart k' k b (refusal_number w) (sym e))
+  tells-once k k' (Err v) (Err w) e = (
+    ap (λ (why : Refusal). Err why) (refusal-once v w (g-once k k' _ _ e)),
+    sym (g-keeps k (refusal_number v)) ∙ ap kept e ∙ g-keeps k' (refusal_number w),
+  )

@@ -1,5 +1,5 @@
--- What the calls answer, told as the definitions have it: a refusal by its number, beside all as it was; and the numbers of what each gives.
--- Assumes nothing.
+-- Short for what the clauses `call` say: what a call answers, told as the definitions have it, a refusal by its number, beside all as it was.
+-- And the numbers of what each call gives. Assumes nothing.
 use Rattle.std.specs.Prelude.{ℕ, List, ◌++◌, None, Result, Ok, Err}
 use Rattle.machine.specs.declared.Refusal.{Refusal}
 use Rattle.machine.specs.State.{State, Shared}
